@@ -26,7 +26,7 @@ fn position(text: &[u8], mark: u8) -> Option<usize>
     None
 }
 
-// The text before the first `mark`, and the text after it where there is one.
+/// The text before the first `mark`, and the text after it where there is one.
 pub fn cut(text: &[u8], mark: u8) -> (&[u8], Option<&[u8]>)
     ensures front { λ r. ⌜ now (r .0) ≡ before mark (now (text .entry)) ⌝ }
     ensures rest { λ r. ⌜ mapped now (r .1) ≡ after mark (now (text .entry)) ⌝ }
@@ -77,8 +77,8 @@ fn digits(text: &[u8]) -> Option<u32>
     Some(value)
 }
 
-// The number that `text` writes in decimal digits: no sign, and no zero in front of another digit.
-// The answer is `n` just where `text` is what `{n}` writes.
+/// The number that `text` writes in decimal digits: no sign, and no zero in front of another digit.
+/// The answer is `n` just where `text` is what `{n}` writes.
 pub fn decimal(text: &[u8]) -> Option<u32>
     ensures value { λ r. ⌜ r ≡ number-in (now (text .entry)) ⌝ }
     ensures writes { λ r. ⌜ ((n : ℕ) → (r ≡ Some n → (n < 2 ^ 32) × (now (text .entry) ≡ spelled n)) × (n < 2 ^ 32 → now (text .entry) ≡ spelled n → r ≡ Some n)) ⌝ }
@@ -100,8 +100,8 @@ fn first_number(text: &[u8]) -> (Option<u32>, Option<&[u8]>)
     (decimal(piece), rest)
 }
 
-// The numbers of a line, one blank between two; None where a piece is no number.
-// The answer is `ns` just where `line` is how `ns` is written. `Err` is want of memory.
+/// The numbers of a line, one blank between two; None where a piece is no number.
+/// The answer is `ns` just where `line` is how `ns` is written. `Err` is want of memory.
 pub fn numbers(heap: Global, line: &[u8]) -> Result<Option<Vec<u32>>, AllocError>
     ensures value { λ r. ⌜ made r (λ found. mapped vec-items found ≡ numbers-in (now (line .entry))) ⌝ }
     ensures writes { λ r. ⌜ made r (λ found. (ns : List ℕ) → (mapped vec-items found ≡ Some ns → Writes ns (now (line .entry))) × (Writes ns (now (line .entry)) → mapped vec-items found ≡ Some ns)) ⌝ }

@@ -5,3 +5,4 @@ pub mod Peaks
 pub mod RunningLaws
 pub mod LeftOverLaws
 pub mod LeftOverOrder
+pub mod LeftOverOnly

@@ -10,10 +10,10 @@ use lib.ListN.{length, getD, take}
 use lib.Seq.{take-all}
 use Rattle.std.specs.shelf.Lists.{sum}
 use Rattle.std.proofs.shelf.Counted.{length-map-counting, getD-map-counting}
-use Rattle.std.proofs.shelf.Lists.{getD-past}
+use Rattle.std.proofs.shelf.Lists.{getD-past, ext-getD}
 use Rattle.std.proofs.shelf.Sums.{sumBy-more, sumBy-take-le}
 use Rattle.std.proofs.shelf.Tests.{cases-lt}
-use Rattle.sharing.specs.Rule.{Laws}
+use Rattle.sharing.specs.Rule.{Laws, The-one}
 use Rattle.sharing.specs.RunningTotal.{together, running-share, running, By-running-totals}
 use Rattle.sharing.proofs.Nearest.{laws-if-near}
 use Rattle.sharing.proofs.Portions.{quotients-rise, quotient-le}
@@ -98,3 +98,12 @@ running-laws = laws-if-near running (record {
   not-under = λ a ws k h.
       rw (share-is a ws k, sum-more ws k) (under a (sum (take k ws)) (getD ws k 0) (sum ws) h);
 })
+
+-- Shares with the same totals of first places are the same.
+pub the-one-by-running-totals : (a : ℕ) (ws : List ℕ) → The-one (By-running-totals a ws) (length ws) (running a ws)
+the-one-by-running-totals a ws = record {
+  told = by-running-totals a ws;
+  no-other = λ other long told.
+      ext-getD 0 other (running a ws) (long ∙ sym (length-map-counting (running-share a ws) 0 (length ws)))
+      (λ k h. omega (arith, sum-more other k, told k, told (k + 1), share-is a ws k));
+}

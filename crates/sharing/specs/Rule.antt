@@ -46,3 +46,8 @@ pub record Admitted (amount : ℕ) (weights : List ℕ) (places total : ℕ) : T
   pub total-is : total ≡ sum weights
   pub total-small : sum weights ≤ largest
   pub nothing : sum weights ≡ 0 → amount ≡ 0
+
+-- The one list of so many shares that is told so.
+pub record The-one (Told : List ℕ → Type 0) (places : ℕ) (shares : List ℕ) : Type 0 where
+  pub told : Told shares
+  pub no-other : (other : List ℕ) → length other ≡ places → Told other → other ≡ shares

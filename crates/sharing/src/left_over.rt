@@ -8,7 +8,7 @@ ghost use Rattle.std.specs.Results.{isOk};
 ghost use Rattle.std.specs.Vec.{made};
 ghost use Rattle.std.specs.shelf.Lists.{sum};
 ghost use Rattle.refusals.specs.First.{first-met};
-ghost use Rattle.sharing.specs.Rule.{Admitted, reasons};
+ghost use Rattle.sharing.specs.Rule.{Admitted, The-one, reasons};
 ghost use Rattle.sharing.specs.LeftOver.{whole-parts, remainders, foremost, hand-out, left-over, By-remainders};
 use crate::SharingRule;
 use crate::portion::portion_of;
@@ -29,7 +29,7 @@ pub impl SharingRule for LeftOver as LeftOverRule {
     fn split(&self, amount: u32, weights: &[u32], shares: &mut [u32]) -> Result<(), Refusal>
         ensures answer { λ r. ⌜ r ≡ first-met (reasons amount (now (weights .entry)) (length (now (shares .entry)))) tt ⌝ }
         ensures buffer { λ r. ⌜ now (shares .exit) ≡ cond (isOk r) (left-over amount (now (weights .entry))) (now (shares .entry)) ⌝ }
-        ensures by_remainders { λ r. ⌜ made r (λ _. By-remainders amount (now (weights .entry)) (now (shares .exit))) ⌝ }
+        ensures by_remainders { λ r. ⌜ made r (λ _. The-one (By-remainders amount (now (weights .entry))) (length (now (weights .entry))) (now (shares .exit))) ⌝ }
     {
         let total = checked_total(amount, weights, shares.len())?;
         write_by_remainders(amount, weights, total, shares);
@@ -41,7 +41,7 @@ pub impl SharingRule for LeftOver as LeftOverRule {
 fn write_by_remainders(amount: u32, weights: &[u32], total: u32, shares: &mut [u32])
     requires { ⌜ Admitted amount (now weights) (length (now shares)) total ⌝ }
     ensures shares { λ _. ⌜ now (shares .exit) ≡ left-over amount (now (weights .entry)) ⌝ }
-    ensures by_remainders { λ _. ⌜ By-remainders amount (now (weights .entry)) (now (shares .exit)) ⌝ }
+    ensures by_remainders { λ _. ⌜ The-one (By-remainders amount (now (weights .entry))) (length (now (weights .entry))) (now (shares .exit)) ⌝ }
 {
     let mut room = [0; MOST_WEIGHTS];
     let rests = &mut room[0..weights.len()];

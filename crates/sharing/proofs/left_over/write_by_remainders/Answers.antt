@@ -5,10 +5,11 @@ use native.Mathlib.Omega.{arith}
 use lib.ListN.{length}
 use Rattle.std.specs.shelf.Lists.{sum}
 use Rattle.std.proofs.shelf.Lists.{length-map}
+use Rattle.sharing.specs.Rule.{The-one}
 use Rattle.sharing.specs.LeftOver.{By-remainders}
 use Rattle.sharing.proofs.Nearest.{zero-or-more}
 use Rattle.sharing.proofs.LeftOverLaws.{parts-le, some-place, left-over-is}
-use Rattle.sharing.proofs.LeftOverOrder.{by-remainders}
+use Rattle.sharing.proofs.LeftOverOnly.{the-one-by-remainders}
 use Rattle.sharing.proofs.left_over.write_by_remainders.Needs as need
 
 pub sub-amount : need.sub-amount
@@ -37,4 +38,4 @@ returns c =
     let ws = c .args .weights .now in
     let written = c .write-whole-parts-given .ensures in
     let shares = c .add-units .ensures ∙ left-over-is a ws _ _ _ (c .pre .nothing) (written .given) (written .rests) (written .parts) in
-    record { shares = shares; by-remainders = subst (By-remainders a ws) (sym shares) (by-remainders a ws (c .pre .nothing)) }
+    record { shares = shares; by-remainders = subst (The-one (By-remainders a ws) (length ws)) (sym shares) (the-one-by-remainders a ws (c .pre .nothing)) }
