@@ -1,12 +1,9 @@
 -- What the answers of a rule say of the text. Assumes nothing.
-use mathlib.Core.Path.{_≡_, refl, sym, ap, _∙_}
-use mathlib.Core.List.{List, [], _∷_, _++_, append-assoc}
-use Prim.Native.Nat.{ℕ, _≤_}
-use native.Mathlib.Omega.{arith}
-use lib.ListN.{length, take}
-use Rattle.std.specs.declared.result.Result.{Result}
-use Rattle.std.specs.declared.result.Result.the-variants.{Ok, Err}
-use Rattle.refusals.specs.declared.Refusal.{Refusal}
+use mathlib.Core.Path.{_≡_, ap, _∙_}
+use mathlib.Core.List.{List, _++_, append-assoc}
+use Prim.Native.Nat.{ℕ}
+use lib.ListN.{length}
+use Rattle.std.specs.declared.result.Result.the-variants.{Ok}
 use Rattle.refusals.specs.First.{first-met}
 use Rattle.refusals.proofs.FirstDecides.{served-value, served-with}
 use Rattle.sharing.specs.Rule.{Laws, reasons}

@@ -1,8 +1,7 @@
 -- The left-over rule keeps the laws of a sharing rule. Assumes nothing.
 use mathlib.Core.Path.{_≡_, refl, sym, ap, subst, _∙_}
-use mathlib.Core.Bool.{Bool, true, false, cond}
 use mathlib.Core.List.{List, [], _∷_, map}
-use mathlib.Core.Logic.{_⊎_, inl, inr, _≢_}
+use mathlib.Core.Logic.{inl, inr}
 use Prim.Native.Nat.{ℕ, zero, suc, _+_, _-_, _*_, _/_, _%_, _<_, _≤_}
 use native.Mathlib.Nat.{add-mul, one-mul, mul-add, mul-zero, zero-div, zero-mod, div-zero, div-add-mod', mod-lt, mul-comm, mul-sub, le-of-mul-le-mul-right, suc-mul}
 use native.Mathlib.Omega.{arith}

@@ -1,14 +1,14 @@
 -- The units that are left go by the remainders. Assumes nothing.
 use mathlib.Core.Path.{_≡_, refl, sym, ap, subst, _∙_}
-use mathlib.Core.List.{List, [], _∷_, map}
+use mathlib.Core.List.{List}
 use mathlib.Core.Logic.{_⊎_, inl, inr}
-use Prim.Native.Nat.{ℕ, zero, suc, _+_, _-_, _<_, _≤_}
+use Prim.Native.Nat.{ℕ, zero, suc, _+_, _-_, _<_}
 use native.Mathlib.Omega.{arith}
 use lib.ListN.{length, getD, set}
 use Rattle.std.specs.shelf.Lists.{sum}
 use Rattle.std.proofs.shelf.Lists.{getD-set-same, getD-set-other}
 use Rattle.std.proofs.shelf.Tests.{cases-lt, cases-eq}
-use Rattle.sharing.specs.LeftOver.{whole-parts, remainders, units-left, peak, foremost, hand-out, left-over, By-remainders}
+use Rattle.sharing.specs.LeftOver.{whole-parts, remainders, foremost, hand-out, left-over, By-remainders}
 use Rattle.sharing.proofs.LeftOverLaws.{State, start, step, some-rest, inside-if-some, units-are, part-at, rest-at, parts-le, parts-without-weight}
 use Rattle.sharing.proofs.Nearest.{zero-or-more}
 use Rattle.sharing.proofs.Peaks.{getD-foremost, getD-le-peak, foremost-first}

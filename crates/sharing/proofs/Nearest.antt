@@ -1,13 +1,12 @@
 -- Laws that follow from the others where the tolerance is 1. Assumes nothing.
-use mathlib.Core.Path.{_≡_, refl, sym, ap, _∙_}
-use mathlib.Core.List.{List, [], _∷_}
+use mathlib.Core.Path.{_≡_, refl, ap, _∙_}
+use mathlib.Core.List.{List}
 use mathlib.Core.Logic.{_⊎_, inl, inr}
 use Prim.Native.Nat.{ℕ, zero, suc, _+_, _*_, _<_, _≤_}
 use native.Mathlib.Nat.{one-mul, mul-zero, mul-le-mul-right, mul-comm, add-mul, lt-of-mul-lt-mul-right}
 use native.Mathlib.Omega.{arith}
 use lib.ListN.{length, getD}
 use Rattle.std.specs.shelf.Lists.{sum}
-use Rattle.std.proofs.shelf.Tests.{cases-order}
 use Rattle.sharing.specs.Rule.{Laws}
 
 -- A share that is less than one unit above its exact part is 0 at weight 0, and at most the weight where the amount is at most the sum.

@@ -1,9 +1,9 @@
 -- The running-total rule keeps the laws of a sharing rule. Assumes nothing.
-use mathlib.Core.Path.{_≡_, refl, sym, ap, subst, _∙_}
-use mathlib.Core.List.{List, [], _∷_, map}
-use mathlib.Core.Logic.{_⊎_, inl, inr}
+use mathlib.Core.Path.{_≡_, sym, ap, subst, _∙_}
+use mathlib.Core.List.{List}
+use mathlib.Core.Logic.{inl, inr}
 use Prim.Native.Nat.{ℕ, zero, suc, _+_, _-_, _*_, _/_, _<_, _≤_}
-use native.Mathlib.Nat.{mul-add, mul-zero, mul-comm, mul-sub, mul-le-mul-left, div-mul-le-self, lt-div-mul-add, div-zero, zero-div, mul-div-cancel}
+use native.Mathlib.Nat.{mul-add, mul-zero, mul-comm, mul-sub, div-mul-le-self, lt-div-mul-add, div-zero, zero-div, mul-div-cancel}
 use native.Mathlib.Numerals.{add-one}
 use native.Mathlib.Omega.{arith}
 use lib.ListN.{length, getD, take}
@@ -11,12 +11,12 @@ use lib.Seq.{take-all}
 use Rattle.std.specs.shelf.Lists.{sum}
 use Rattle.std.proofs.shelf.Counted.{length-map-counting, getD-map-counting}
 use Rattle.std.proofs.shelf.Lists.{getD-past, ext-getD}
-use Rattle.std.proofs.shelf.Sums.{sumBy-more, sumBy-take-le}
+use Rattle.std.proofs.shelf.Sums.{sumBy-more}
 use Rattle.std.proofs.shelf.Tests.{cases-lt}
 use Rattle.sharing.specs.Rule.{Laws, The-one}
 use Rattle.sharing.specs.RunningTotal.{together, running-share, running, By-running-totals}
 use Rattle.sharing.proofs.Nearest.{laws-if-near}
-use Rattle.sharing.proofs.Portions.{quotients-rise, quotient-le}
+use Rattle.sharing.proofs.Portions.{quotients-rise}
 
 -- one weight more, also past the end
 pub sum-more : (ws : List ℕ) (k : ℕ) → sum (take (k + 1) ws) ≡ sum (take k ws) + getD ws k 0
@@ -31,10 +31,6 @@ sum-more ws k =
 
 pub together-rises : (a : ℕ) (ws : List ℕ) (k : ℕ) → together a ws k ≤ together a ws (k + 1)
 together-rises a ws k = quotients-rise a (sum (take k ws)) (sum (take (k + 1) ws)) (sum ws) (omega (arith, sum-more ws k))
-
--- no places have more than the amount
-pub together-le : (a : ℕ) (ws : List ℕ) (k : ℕ) → together a ws k ≤ a
-together-le a ws k = quotient-le a (sum (take k ws)) (sum ws) (sumBy-take-le (λ x. x) ws k)
 
 share-is : (a : ℕ) (ws : List ℕ) (k : ℕ) → getD (running a ws) k 0 ≡ running-share a ws k
 share-is a ws k =

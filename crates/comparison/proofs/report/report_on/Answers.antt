@@ -1,6 +1,6 @@
 use mathlib.Core.Path.{_≡_, refl, sym, ap, _∙_}
-use mathlib.Core.List.{List, [], _∷_, _++_, append-nil}
-use Prim.Native.Nat.{ℕ, _+_, _<_, _≤_}
+use mathlib.Core.List.{List, [], _++_}
+use Prim.Native.Nat.{ℕ, _+_, _<_}
 use native.Mathlib.Omega.{arith}
 use denote.Ref.{RefT, now}
 use lib.ListN.{length}
@@ -10,7 +10,6 @@ use Rattle.std.specs.Options.{valueOr, mapped, Cases}
 use Rattle.std.specs.declared.option.Option.{Option}
 use Rattle.std.specs.declared.option.Option.the-variants.{None, Some}
 use Rattle.lines.specs.Cuts.{after}
-use Rattle.comparison.specs.Lines.{lines-of}
 use Rattle.comparison.specs.Report.{line-text, report-on}
 use Rattle.comparison.proofs.LineByLine.{line-more, no-lines}
 use Rattle.comparison.proofs.report.report_on.Needs as need

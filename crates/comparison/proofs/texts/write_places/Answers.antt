@@ -1,6 +1,5 @@
-use mathlib.Core.Path.{_≡_, refl}
+use mathlib.Core.Path.{refl}
 use lib.ListN.{getD}
-use Rattle.std.specs.Of.String.{string-bytes}
 use Rattle.comparison.specs.Report.{place-text}
 use Rattle.comparison.proofs.Written.{place-more}
 use Rattle.comparison.proofs.texts.write_places.Needs as need

@@ -1,11 +1,11 @@
-use mathlib.Core.Path.{_≡_, refl, sym, ap, subst, _∙_}
-use Prim.Native.Nat.{ℕ, suc, _+_, _-_, _<_, _≤_}
+use mathlib.Core.Path.{_≡_, sym, ap, _∙_}
+use Prim.Native.Nat.{suc, _+_, _-_, _<_}
 use native.Mathlib.Omega.{arith}
-use lib.ListN.{length, getD, set}
+use lib.ListN.{length, getD}
 use Rattle.std.specs.shelf.Lists.{sum}
 use Rattle.std.proofs.shelf.Sums.{sumBy-set, getD-le-sumBy}
 use Rattle.sharing.proofs.LeftOverLaws.{hand-out-next}
-use Rattle.sharing.specs.LeftOver.{foremost, hand-out}
+use Rattle.sharing.specs.LeftOver.{hand-out}
 use Rattle.sharing.proofs.left_over.add_units.Needs as need
 
 pub add-unit-at-requires : need.add-unit-at-requires
