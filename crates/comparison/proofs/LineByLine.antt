@@ -2,14 +2,16 @@
 use mathlib.Core.Path.{_≡_, refl, sym, ap, _∙_}
 use mathlib.Core.Bool.{Bool, true, false, cond}
 use mathlib.Core.List.{List, [], _∷_, _++_, append-assoc}
+use mathlib.Core.Logic.{inl, inr}
 use Prim.Native.Nat.{ℕ, _+_, _<_}
 use native.Mathlib.Omega.{arith}
 use lib.Dec.{eqb}
 use lib.ListN.{length}
+use Rattle.std.proofs.shelf.Tests.{cases-eq, eq-eqb, ne-eqb}
 use Rattle.std.specs.Options.{valueOr}
 use Rattle.std.specs.declared.option.Option.the-variants.{Some}
 use Rattle.lines.specs.Cuts.{before, after}
-use Rattle.comparison.specs.Lines.{onto, lines-of}
+use Rattle.comparison.specs.Lines.{onto, lines-of, Each-without-newline, Cut-into-lines}
 use Rattle.comparison.specs.Report.{line-text, report-on}
 
 -- A byte more in front, by whether it is a newline.
@@ -40,3 +42,36 @@ line-more count text rest written after-line report some so-far left line =
 pub no-lines : (text : List ℕ) → length text ≡ 0 → lines-of text ≡ []
 no-lines [] none = refl
 no-lines (b ∷ bs) none = absurd (omega arith)
+
+-- A byte more in front of a text, by whether it is a newline.
+no-newline-more : (b : ℕ) (lines : List (List ℕ)) → (b ≡ 10 → ⊥) → Each-without-newline lines → Each-without-newline (onto b lines)
+no-newline-more b [] other all = ((other, tt), tt)
+no-newline-more b (line ∷ rest) other all = ((other, all .0), all .1)
+
+newline-cut : (bs : List ℕ) → Cut-into-lines bs (lines-of bs) → Cut-into-lines (10 ∷ bs) ([] ∷ lines-of bs)
+newline-cut bs cut = record {
+  no-newline-inside = (tt, cut .no-newline-inside);
+  nothing-lost = elim (cut .nothing-lost) [ inl e ↦ inl (ap (λ l. 10 ∷ l) e) | inr e ↦ inr (ap (λ l. 10 ∷ l) e) ];
+}
+
+byte-cut : (b : ℕ) (bs : List ℕ) (lines : List (List ℕ)) → (b ≡ 10 → ⊥) → (lines ≡ [] → bs ≡ []) → Cut-into-lines bs lines → Cut-into-lines (b ∷ bs) (onto b lines)
+byte-cut b bs [] other none cut = record {
+  no-newline-inside = ((other, tt), tt);
+  nothing-lost = inr (ap (λ l. b ∷ l ++ 10 ∷ []) (sym (none refl)));
+}
+byte-cut b bs (line ∷ rest) other none cut = record {
+  no-newline-inside = no-newline-more b (line ∷ rest) other (cut .no-newline-inside);
+  nothing-lost = elim (cut .nothing-lost) [ inl e ↦ inl (ap (λ l. b ∷ l) e) | inr e ↦ inr (ap (λ l. b ∷ l) e) ];
+}
+
+some-line : (text : List ℕ) → lines-of text ≡ [] → text ≡ []
+some-line [] none = refl
+some-line (b ∷ bs) none = let same = sym none ∙ first-line b bs in let z : _≡_ {A = ℕ} 0 1 = cc in absurd (omega arith)
+
+pub cut-into-lines : (text : List ℕ) → Cut-into-lines text (lines-of text)
+cut-into-lines [] = record { no-newline-inside = tt; nothing-lost = inl refl }
+cut-into-lines (b ∷ bs) =
+    elim (cases-eq b 10) [
+      | inl e ↦ rw (eq-eqb b 10 e, e) (newline-cut bs (cut-into-lines bs))
+      | inr ne ↦ rw (ne-eqb b 10 ne) (byte-cut b bs (lines-of bs) ne (some-line bs) (cut-into-lines bs))
+    ]

@@ -58,7 +58,8 @@ pub(crate) fn write_division(
             write_places(out, weights, running.as_slice(), left_over.as_slice())?;
         }
         (Err(refusal), _) => write_refusal(out, number, refusal)?,
-        (_, Err(refusal)) => write_refusal(out, number, refusal)?,
+        // Both rules refuse for the same reasons.
+        (Ok(_), Err(_)) => unreachable(),
     }
     Ok(())
 }

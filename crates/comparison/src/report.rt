@@ -4,6 +4,7 @@ ghost use mathlib.Core.List.{_++_};
 ghost use Rattle.std.specs.Of.String.{string-bytes};
 ghost use Rattle.std.specs.Vec.{made};
 ghost use Rattle.std.specs.declared.option.Option.the-variants.{Some};
+ghost use Rattle.comparison.specs.Lines.{lines-of, Cut-into-lines};
 ghost use Rattle.comparison.specs.Report.{numbers-text, line-text, report-text};
 use crate::divisions::write_division;
 use crate::memory::NoMemoryToAllocate;
@@ -45,7 +46,8 @@ fn write_line(heap: Global, out: &mut String, number: usize, line: &[u8]) -> Res
 
 /// What each rule gives for each line of `input`, place by place and where they differ, or the refusal by number.
 pub fn report_on(heap: Global, input: &[u8]) -> Result<String, OutOfMemory>
-    ensures { λ r. ⌜ made r (λ text. string-bytes text ≡ report-text (now (input .entry))) ⌝ }
+    ensures text { λ r. ⌜ made r (λ text. string-bytes text ≡ report-text (now (input .entry))) ⌝ }
+    ensures every_line { λ r. ⌜ made r (λ _. Cut-into-lines (now (input .entry)) (lines-of (now (input .entry)))) ⌝ }
 {
     let mut out = String::new(heap);
     let mut count = 0;

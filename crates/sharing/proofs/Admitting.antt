@@ -16,7 +16,7 @@ use Rattle.refusals.specs.declared.Refusal.{Refusal}
 use Rattle.refusals.specs.First.{first-met, Rising, Decides}
 use Rattle.refusals.proofs.FirstDecides.{first-decides, served-value}
 use Rattle.sharing.proofs.Nearest.{zero-or-more}
-use Rattle.sharing.specs.Rule.{Laws, Admitted, reasons}
+use Rattle.sharing.specs.Rule.{Laws, Near-exact, Admitted, reasons}
 
 pub admitted : {A : Type 0} (amount : ℕ) (weights : List ℕ) (places : ℕ) (r value : A) → Ok r ≡ first-met (reasons amount weights places) value → Admitted amount weights places (sum weights)
 admitted amount weights places r value served = record {
@@ -62,3 +62,15 @@ pub answered-whole : (shares : ℕ → List ℕ → List ℕ) (t : ℕ) → Laws
 answered-whole shares t laws a ws places (Ok given) answer =
     ap sum (served-value (reasons a ws places) given (shares a ws) answer) ∙ served-whole shares t laws a ws places (sum ws) (admitted a ws places given (shares a ws) answer)
 answered-whole shares t laws a ws places (Err refusal) answer = tt
+
+-- What a call that is served answers is near the exact parts, by every lawful rule.
+pub answered-near : (shares : ℕ → List ℕ → List ℕ) (t : ℕ) → Laws shares t → (amount : ℕ) (weights : List ℕ) (places : ℕ) (r : Result (List ℕ) Refusal) →
+    r ≡ first-met (reasons amount weights places) (shares amount weights) → made r (Near-exact t amount weights)
+answered-near shares t laws a ws places (Ok given) answer =
+    subst (Near-exact t a ws) (sym (served-value (reasons a ws places) given (shares a ws) answer)) (record {
+      nothing-for-nothing = laws .zero-gets-zero a ws;
+      within-the-weights = λ small k. laws .at-most-its-weight a ws k small;
+      not-above = λ some k. laws .not-over a ws k some;
+      not-below = λ some k. laws .not-under a ws k some;
+    })
+answered-near shares t laws a ws places (Err refusal) answer = tt

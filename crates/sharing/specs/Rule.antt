@@ -47,6 +47,14 @@ pub record Admitted (amount : ℕ) (weights : List ℕ) (places total : ℕ) : T
   pub total-small : sum weights ≤ largest
   pub nothing : sum weights ≡ 0 → amount ≡ 0
 
+-- The shares of one call, told without the rule: nothing where the weight is 0, no more than the weights where they suffice,
+-- and less than the tolerance from the exact part, above or below.
+pub record Near-exact (tolerance amount : ℕ) (weights shares : List ℕ) : Type 0 where
+  pub nothing-for-nothing : (k : ℕ) → getD weights k 0 ≡ 0 → getD shares k 0 ≡ 0
+  pub within-the-weights : amount ≤ sum weights → (k : ℕ) → getD shares k 0 ≤ getD weights k 0
+  pub not-above : 0 < sum weights → (k : ℕ) → getD shares k 0 * sum weights < amount * getD weights k 0 + tolerance * sum weights
+  pub not-below : 0 < sum weights → (k : ℕ) → amount * getD weights k 0 < getD shares k 0 * sum weights + tolerance * sum weights
+
 -- The one list of so many shares that is told so.
 pub record The-one (Told : List ℕ → Type 0) (places : ℕ) (shares : List ℕ) : Type 0 where
   pub told : Told shares

@@ -3,11 +3,11 @@ ghost use mathlib.Core.Path.{_≡_};
 ghost use Rattle.std.specs.Vec.{made};
 ghost use Rattle.std.specs.shelf.Lists.{sum};
 ghost use Rattle.refusals.specs.First.{first-met, Decides};
-ghost use Rattle.sharing.specs.Rule.{reasons};
+ghost use Rattle.sharing.specs.Rule.{Near-exact, reasons};
 use crate::SharingRule;
 use refusals::Refusal;
 
-/// The shares of `amount` over four weights, as many as a book has contracts. They add up to the amount.
+/// The shares of `amount` over four weights. They add up to the amount.
 pub fn divide_over_four<R: SharingRule>(
     rule: &R,
     amount: u32,
@@ -15,6 +15,7 @@ pub fn divide_over_four<R: SharingRule>(
 ) -> Result<[u32; 4], Refusal>
     ensures answer { λ r. ⌜ r ≡ first-met (reasons amount (now (weights .entry)) 4) (meaning (now (rule .entry)) amount (now (weights .entry))) ⌝ }
     ensures nothing_lost { λ r. ⌜ made r (λ shares. sum shares ≡ amount) ⌝ }
+    ensures near_exact { λ r. ⌜ made r (Near-exact (tolerance (now (rule .entry))) amount (now (weights .entry))) ⌝ }
     ensures first_reason { λ r. ⌜ Decides (reasons amount (now (weights .entry)) 4) r ⌝ }
 {
     four_shares(rule, amount, weights)

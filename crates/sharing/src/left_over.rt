@@ -7,7 +7,7 @@ ghost use lib.ListN.{length, getD, set};
 ghost use Rattle.std.specs.Results.{isOk};
 ghost use Rattle.std.specs.Vec.{made};
 ghost use Rattle.std.specs.shelf.Lists.{sum};
-ghost use Rattle.refusals.specs.First.{first-met};
+ghost use Rattle.refusals.specs.First.{first-met, Decides};
 ghost use Rattle.sharing.specs.Rule.{Admitted, The-one, reasons};
 ghost use Rattle.sharing.specs.LeftOver.{whole-parts, remainders, foremost, hand-out, left-over, By-remainders};
 use crate::SharingRule;
@@ -28,6 +28,7 @@ pub impl SharingRule for LeftOver as LeftOverRule {
 
     fn split(&self, amount: u32, weights: &[u32], shares: &mut [u32]) -> Result<(), Refusal>
         ensures answer { λ r. ⌜ r ≡ first-met (reasons amount (now (weights .entry)) (length (now (shares .entry)))) tt ⌝ }
+        ensures first_reason { λ r. ⌜ Decides (reasons amount (now (weights .entry)) (length (now (shares .entry)))) r ⌝ }
         ensures buffer { λ r. ⌜ now (shares .exit) ≡ cond (isOk r) (left-over amount (now (weights .entry))) (now (shares .entry)) ⌝ }
         ensures by_remainders { λ r. ⌜ made r (λ _. The-one (By-remainders amount (now (weights .entry))) (length (now (weights .entry))) (now (shares .exit))) ⌝ }
     {

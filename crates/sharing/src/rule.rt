@@ -6,7 +6,7 @@ ghost use Prim.Native.Nat.{ℕ, _≤_};
 ghost use lib.ListN.{length};
 ghost use Rattle.std.specs.Results.{isOk};
 ghost use Rattle.std.specs.shelf.Lists.{sum};
-ghost use Rattle.refusals.specs.First.{first-met};
+ghost use Rattle.refusals.specs.First.{first-met, Decides};
 ghost use Rattle.sharing.specs.Rule.{Laws, reasons};
 use refusals::Refusal;
 
@@ -30,6 +30,7 @@ pub trait SharingRule {
     /// Writes the shares of `amount` over `weights` to `shares`, which stay as they are under a refusal.
     fn split(&self, amount: u32, weights: &[u32], shares: &mut [u32]) -> Result<(), Refusal>
         ensures answer { λ r. ⌜ r ≡ first-met (reasons amount (now (weights .entry)) (length (now (shares .entry)))) tt ⌝ }
+        ensures first_reason { λ r. ⌜ Decides (reasons amount (now (weights .entry)) (length (now (shares .entry)))) r ⌝ }
         ensures buffer { λ r. ⌜ now (shares .exit) ≡ cond (isOk r) (meaning (now (self .entry)) amount (now (weights .entry))) (now (shares .entry)) ⌝ };
 }
 

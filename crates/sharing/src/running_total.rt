@@ -5,7 +5,7 @@ ghost use mathlib.Core.Bool.{cond};
 ghost use lib.ListN.{length};
 ghost use Rattle.std.specs.Results.{isOk};
 ghost use Rattle.std.specs.Vec.{made};
-ghost use Rattle.refusals.specs.First.{first-met};
+ghost use Rattle.refusals.specs.First.{first-met, Decides};
 ghost use Rattle.sharing.specs.Rule.{Admitted, The-one, reasons};
 ghost use Rattle.sharing.specs.RunningTotal.{running, By-running-totals};
 use crate::SharingRule;
@@ -24,6 +24,7 @@ pub impl SharingRule for RunningTotal as RunningTotalRule {
 
     fn split(&self, amount: u32, weights: &[u32], shares: &mut [u32]) -> Result<(), Refusal>
         ensures answer { λ r. ⌜ r ≡ first-met (reasons amount (now (weights .entry)) (length (now (shares .entry)))) tt ⌝ }
+        ensures first_reason { λ r. ⌜ Decides (reasons amount (now (weights .entry)) (length (now (shares .entry)))) r ⌝ }
         ensures buffer { λ r. ⌜ now (shares .exit) ≡ cond (isOk r) (running amount (now (weights .entry))) (now (shares .entry)) ⌝ }
         ensures by_running_totals { λ r. ⌜ made r (λ _. The-one (By-running-totals amount (now (weights .entry))) (length (now (weights .entry))) (now (shares .exit))) ⌝ }
     {

@@ -11,7 +11,7 @@ use Rattle.std.specs.declared.option.Option.{Option}
 use Rattle.std.specs.declared.option.Option.the-variants.{None, Some}
 use Rattle.lines.specs.Cuts.{after}
 use Rattle.comparison.specs.Report.{line-text, report-on}
-use Rattle.comparison.proofs.LineByLine.{line-more, no-lines}
+use Rattle.comparison.proofs.LineByLine.{line-more, no-lines, cut-into-lines}
 use Rattle.comparison.proofs.report.report_on.Needs as need
 
 -- What is left after a line, where there may be nothing.
@@ -38,6 +38,10 @@ loop-left-again c =
 pub returns : need.returns
 returns c =
     let text = c .loop-left .left .now in
-    c .in-Continue-write-end .ensures tt
-    ∙ ap (λ ls. string-bytes (c .loop-left .out) ++ report-on (c .loop-left .count) ls) (sym (no-lines text (true-eqb (length text) 0 (c .loop-left-test .ensures tt))))
-    ∙ c .loop-left .inv .0
+    record {
+      text =
+          c .in-Continue-write-end .ensures tt
+          ∙ ap (λ ls. string-bytes (c .loop-left .out) ++ report-on (c .loop-left .count) ls) (sym (no-lines text (true-eqb (length text) 0 (c .loop-left-test .ensures tt))))
+          ∙ c .loop-left .inv .0;
+      every-line = cut-into-lines (c .args .input .now);
+    }

@@ -1,4 +1,4 @@
-use Rattle.sharing.proofs.Admitting.{decided, answered-whole}
+use Rattle.sharing.proofs.Admitting.{decided, answered-whole, answered-near}
 use Rattle.sharing.proofs.four_places.divide_over_four.Needs as need
 
 pub returns : need.returns
@@ -10,5 +10,6 @@ returns g c =
     record {
       answer = answer;
       nothing-lost = answered-whole (g .R·SharingRule .meaning rule) (g .R·SharingRule .tolerance rule) (g .R·SharingRule·met .laws rule) a ws 4 _ answer;
+      near-exact = answered-near (g .R·SharingRule .meaning rule) (g .R·SharingRule .tolerance rule) (g .R·SharingRule·met .laws rule) a ws 4 _ answer;
       first-reason = decided _ _ a ws 4 answer;
     }
