@@ -22,6 +22,9 @@ GIVEN = {
     "getD-le-peak": "get_or-le_peak",
     "readOn-grows": "read_on-grows",
     "take-add": "take-add",
+    # Their snake case is the name of a parameter of a function whose clauses cite them.
+    "row-totals": "totals_by_row",
+    "column-totals": "totals_by_column",
     "told-length": "told_length",
     "right-length": "right_length",
     "row-length": "row_length",
@@ -128,8 +131,11 @@ def respell(line, names, words, imported, proof_of_function):
             return made_name(w, words)
         return w.replace("-", "_")
 
-    line_now = line
-    return TOKEN.sub(turn, line)
+    # Strings keep their text.
+    out = []
+    for i, line_now in enumerate(re.split(r'("[^"]*")', line)):
+        out.append(line_now if i % 2 else TOKEN.sub(turn, line_now))
+    return "".join(out)
 
 
 def main():

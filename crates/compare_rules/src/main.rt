@@ -1,4 +1,6 @@
 // Reads lines of an amount and its weights from standard input, and prints what each sharing rule gives for each.
+#![tactic(auto)]
+
 use anyhow::anyhow;
 use comparison::report_on;
 use std::io::Read;

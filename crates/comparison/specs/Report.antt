@@ -18,8 +18,8 @@ word_of by_running by_left_over = cond (by_running == by_left_over) (codes "same
 -- One place: its weight, and what each rule gives it.
 abbrev pub place_text : ℕ → ℕ → ℕ → ℕ → List ℕ
 place_text place weight by_running by_left_over =
-    codes "place " ++ (decimal place ++ (codes " weight " ++ (decimal weight ++ (codes " running_total " ++ (decimal by_running
-    ++ (codes " left_over " ++ (decimal by_left_over ++ (codes " " ++ (word_of by_running by_left_over ++ codes "\n")))))))))
+    codes "place " ++ (decimal place ++ (codes " weight " ++ (decimal weight ++ (codes " running-total " ++ (decimal by_running
+    ++ (codes " left-over " ++ (decimal by_left_over ++ (codes " " ++ (word_of by_running by_left_over ++ codes "\n")))))))))
 
 abbrev pub places_text : List ℕ → List ℕ → List ℕ → List ℕ
 places_text weights by_running by_left_over =

@@ -18,7 +18,7 @@ fn shares_by<R: SharingRule>(
     amount: u32,
     weights: &[u32],
 ) -> Result<Result<Vec<u32>, Refusal>, AllocError>
-    ensures { IfOk result (λ answer. result_map_both vec_items (λ e. e) answer ≡ first_met (reasons amount weights.now (length weights.now)) (meaning rule.now amount weights.now)) }
+    ensures { IfOk result (λ answer. result_map_both vec_items (λ e. e) answer ≡ first_met (reasons amount weights.now (length weights.now)) (R.meaning rule.now amount weights.now)) }
 {
     let mut shares = vec![in heap; 0; weights.len()]?;
     match rule.split(amount, weights, shares.as_mut_slice()) {

@@ -1,4 +1,6 @@
 // A report that compares the two sharing rules, line by line.
+#![tactic(auto)]
+
 mod divisions;
 mod report;
 mod texts;

@@ -3,7 +3,7 @@ ghost use Rattle.std.specs.Prelude.{◌≡◌, [], ◌++◌, length, string_byte
 ghost use Rattle.comparison.specs.Report.{word_of, place_text, places_text, heading_text, refusal_text, report_on};
 
 use refusals::Refusal;
-use std::fmt;
+use std::alloc::AllocError;
 
 // Whether the rules give a place the same.
 fn word(running: u32, left_over: u32) -> &'static str
@@ -22,7 +22,7 @@ fn write_place(
     weight: u32,
     running: u32,
     left_over: u32,
-) -> fmt::Result
+) -> Result<(), AllocError>
     ensures { OnOk result (string_bytes out.new ≡ string_bytes out.old ++ place_text place weight running left_over) }
 {
     let word = word(running, left_over);
@@ -37,7 +37,7 @@ pub(crate) fn write_places(
     weights: &[u32],
     running: &[u32],
     left_over: &[u32],
-) -> fmt::Result
+) -> Result<(), AllocError>
     requires running { length running.now ≡ length weights.now }
     requires left { length left_over.now ≡ length weights.now }
     ensures { OnOk result (string_bytes out.new ≡ string_bytes out.old ++ places_text weights.now running.now left_over.now) }
@@ -48,20 +48,24 @@ pub(crate) fn write_places(
     Ok(())
 }
 
-pub(crate) fn write_heading(out: &mut String, number: usize, amount: u32) -> fmt::Result
+pub(crate) fn write_heading(out: &mut String, number: usize, amount: u32) -> Result<(), AllocError>
     ensures { OnOk result (string_bytes out.new ≡ string_bytes out.old ++ heading_text number amount) }
 {
     write!(out, "line {number} amount {amount}\n")
 }
 
-pub(crate) fn write_refusal(out: &mut String, number: usize, refusal: Refusal) -> fmt::Result
+pub(crate) fn write_refusal(
+    out: &mut String,
+    number: usize,
+    refusal: Refusal,
+) -> Result<(), AllocError>
     ensures { OnOk result (string_bytes out.new ≡ string_bytes out.old ++ refusal_text number refusal) }
 {
     let reason = refusal.number();
     write!(out, "line {number} refusal {reason}\n")
 }
 
-pub(crate) fn write_end(out: &mut String, lines: usize) -> fmt::Result
+pub(crate) fn write_end(out: &mut String, lines: usize) -> Result<(), AllocError>
     ensures { OnOk result (string_bytes out.new ≡ string_bytes out.old ++ report_on lines []) }
 {
     write!(out, "lines {lines}\n")

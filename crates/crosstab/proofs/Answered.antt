@@ -5,7 +5,7 @@ use Rattle.refusals.specs.declared.Refusal.{Refusal}
 use Rattle.refusals.specs.First.{first_met}
 use Rattle.refusals.proofs.FirstDecides.{served_value}
 use Rattle.crosstab.specs.Cards.{Laws, joined_all}
-use Rattle.crosstab.specs.Tables.{row_totals, column_totals, cross_reasons, SameWhole}
+use Rattle.crosstab.specs.Tables.{totals_by_row, totals_by_column, cross_reasons, SameWhole}
 use Rattle.crosstab.proofs.SameWhole.{same_whole}
 
 -- A table that is served has rows × columns cards.
@@ -14,8 +14,8 @@ full cards rows columns p q served value answer = grind (arith, nat_tests)
 
 pub answered_same_whole : {C : Type 0} {empty : C} {joined : C → C → C} → Laws empty joined → (cards : List C) (rows columns p q : ℕ) (old_rows old_columns : List C) {by_rows by_columns : List C} (r : Result C Refusal)
     → r ≡ first_met (cross_reasons (length cards) rows columns p q) (joined_all empty joined cards)
-    → by_rows ≡ cond (is_ok r) (row_totals empty joined cards rows columns) old_rows
-    → by_columns ≡ cond (is_ok r) (column_totals empty joined cards rows columns) old_columns
+    → by_rows ≡ cond (is_ok r) (totals_by_row empty joined cards rows columns) old_rows
+    → by_columns ≡ cond (is_ok r) (totals_by_column empty joined cards rows columns) old_columns
     → IfOk r (SameWhole empty joined by_rows by_columns)
 answered_same_whole laws cards rows columns p q old_rows old_columns (Err e) answer for_rows for_columns = tt
 answered_same_whole {C} {empty} {joined} laws cards rows columns p q old_rows old_columns (Ok whole) answer for_rows for_columns =

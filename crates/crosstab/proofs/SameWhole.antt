@@ -5,7 +5,7 @@ use Rattle.std.proofs.lemmas.List.{take_all, take-take, drop-take, drop-drop}
 use Rattle.std.proofs.lemmas.Nat.{mul-le}
 use Rattle.std.proofs.lemmas.List.FromFn.{fill_by_all}
 use Rattle.crosstab.specs.Cards.{Laws, joined_all}
-use Rattle.crosstab.specs.Tables.{card_at, row, row_totals, column_totals, SameWhole}
+use Rattle.crosstab.specs.Tables.{card_at, row, totals_by_row, totals_by_column, SameWhole}
 use Rattle.crosstab.proofs.Totals.{joined_all-append, either_order}
 
 pub next_row : (r w : ℕ) → (r + 1) * w ≡ r * w + w
@@ -42,10 +42,10 @@ module _ {C : Type 0} {empty : C} {joined : C → C → C} (laws : Laws empty jo
       let together : first ++ rest ≡ take (suc n * w) (drop (a * w) cards) = ap (λ ys. first ++ ys) after ∙ take-add w (n * w) (drop (a * w) cards) ∙ ap (λ k. take k (drop (a * w) cards)) (omega arith) in
       ap (λ x. joined x (joined_all empty joined (map (λ r. joined_all empty joined (row empty cards w r)) (range_with_len (a + 1) n)))) one ∙ ap (joined (joined_all empty joined first)) others ∙ sym (joined_all-append laws first rest) ∙ ap (joined_all empty joined) together
 
-  pub same_whole : (cards : List C) (rows columns : ℕ) → length cards ≡ rows * columns → SameWhole empty joined (row_totals empty joined cards rows columns) (column_totals empty joined cards rows columns) (joined_all empty joined cards)
+  pub same_whole : (cards : List C) (rows columns : ℕ) → length cards ≡ rows * columns → SameWhole empty joined (totals_by_row empty joined cards rows columns) (totals_by_column empty joined cards rows columns) (joined_all empty joined cards)
   same_whole cards rows columns full =
       let all : take (rows * columns) (drop (0 * columns) cards) ≡ cards = rw zero-mul (take_all (rows * columns) cards (omega arith)) in
-      let by_rows : joined_all empty joined (row_totals empty joined cards rows columns) ≡ joined_all empty joined cards = rows_from cards columns 0 rows (omega arith) ∙ ap (joined_all empty joined) all in
+      let by_rows : joined_all empty joined (totals_by_row empty joined cards rows columns) ≡ joined_all empty joined cards = rows_from cards columns 0 rows (omega arith) ∙ ap (joined_all empty joined) all in
       record {
         rows_join_to_it = by_rows;
         columns_join_to_it = sym (either_order laws (λ r c. card_at empty cards columns r c) (range_with_len 0 rows) (range_with_len 0 columns)) ∙ by_rows;

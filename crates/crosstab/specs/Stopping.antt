@@ -1,8 +1,7 @@
 -- What four stopping sums come to, and when two cards are the same. Assumes nothing.
 use Rattle.std.specs.Prelude.{◌≡◌, ℕ, ◌≤◌}
 use Rattle.std.proofs.Common.{ap, subst, arith}
-use Rattle.std.proofs.Math.Bridge.{le_prop}
-use denote.Struct.Props.{four_prop}
+use Rattle.std.proofs.Props.{props}
 use Rattle.crosstab.specs.Amounts.{largest, stopping_sum, AllFit}
 
 abbrev pub Four : Type 0
@@ -37,7 +36,7 @@ sums_brackets s t u = four (brackets _ t.0 _) (brackets _ t.1 _) (brackets _ t.2
 
 -- That amounts fit is said in one way only.
 pub fit_once : (t : Four) → IsProp (Fit t)
-fit_once t = four_prop le_prop le_prop le_prop le_prop
+fit_once t = hlevel props
 
 -- What is made of equal parts and of a fact about them is equal, where the fact is said in one way only.
 pub same_made : {A B : Type 0} (Fact : A → Type 0) → ((a : A) → IsProp (Fact a)) → (make : (a : A) → Fact a → B) → {a b : A} → a ≡ b → (f : Fact a) (g : Fact b) → make a f ≡ make b g

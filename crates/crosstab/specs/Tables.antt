@@ -16,11 +16,11 @@ abbrev pub column : {C : Type 0} → C → List C → ℕ → ℕ → ℕ → Li
 column empty cards rows columns c = map (λ r. card_at empty cards columns r c) (range_with_len 0 rows)
 
 -- A total for each row, and a total for each column.
-abbrev pub row_totals : {C : Type 0} → C → (C → C → C) → List C → ℕ → ℕ → List C
-row_totals empty joined cards rows columns = map (λ r. joined_all empty joined (row empty cards columns r)) (range_with_len 0 rows)
+abbrev pub totals_by_row : {C : Type 0} → C → (C → C → C) → List C → ℕ → ℕ → List C
+totals_by_row empty joined cards rows columns = map (λ r. joined_all empty joined (row empty cards columns r)) (range_with_len 0 rows)
 
-abbrev pub column_totals : {C : Type 0} → C → (C → C → C) → List C → ℕ → ℕ → List C
-column_totals empty joined cards rows columns = map (λ c. joined_all empty joined (column empty cards rows columns c)) (range_with_len 0 columns)
+abbrev pub totals_by_column : {C : Type 0} → C → (C → C → C) → List C → ℕ → ℕ → List C
+totals_by_column empty joined cards rows columns = map (λ c. joined_all empty joined (column empty cards rows columns c)) (range_with_len 0 columns)
 
 -- The row totals join to the whole, and the column totals join to the same.
 pub record SameWhole {C : Type 0} (empty : C) (joined : C → C → C) (by_rows by_columns : List C) (whole : C) : Type 0 where

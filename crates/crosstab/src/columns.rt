@@ -2,7 +2,7 @@
 ghost use Rattle.std.specs.Prelude.{◌≡◌, ◌+◌, ◌*◌, ◌<◌, length, is_ok, if◌then◌else◌, slice_set};
 ghost use Rattle.refusals.specs.First.{first_met};
 ghost use Rattle.crosstab.specs.Cards.{joined_all};
-ghost use Rattle.crosstab.specs.Tables.{card_at, column, column_totals, column_reasons};
+ghost use Rattle.crosstab.specs.Tables.{card_at, column, totals_by_column, column_reasons};
 
 use crate::Card;
 use crate::table::fills;
@@ -16,7 +16,7 @@ pub fn column_totals<C: Card>(
     totals: &mut [C],
 ) -> Result<(), Refusal>
     ensures answer { result ≡ first_met (column_reasons (length cards.now) rows columns (length totals.old)) tt }
-    ensures buffer { totals.new ≡ (if is_ok result then column_totals blank joined cards.now rows columns else totals.old) }
+    ensures buffer { totals.new ≡ (if is_ok result then totals_by_column C.blank C.joined cards.now rows columns else totals.old) }
 {
     if !fills(cards.len(), rows, columns) || totals.len() != columns {
         return Err(Refusal::UnlikeLengths);
@@ -28,7 +28,7 @@ pub fn column_totals<C: Card>(
 // Writes the total of each column.
 pub(crate) fn write_column_totals<C: Card>(cards: &[C], rows: usize, totals: &mut [C])
     requires { length cards.now ≡ rows * length totals.old }
-    ensures { totals.new ≡ column_totals blank joined cards.now rows (length totals.old) }
+    ensures { totals.new ≡ totals_by_column C.blank C.joined cards.now rows (length totals.old) }
 {
     for c in 0..totals.len() {
         write_column_total(cards, rows, c, totals);
@@ -38,7 +38,7 @@ pub(crate) fn write_column_totals<C: Card>(cards: &[C], rows: usize, totals: &mu
 // Writes the total of column `c` to its place.
 fn write_column_total<C: Card>(cards: &[C], rows: usize, c: usize, totals: &mut [C])
     requires { (length cards.now ≡ rows * length totals.old) × (c < length totals.old) }
-    ensures { totals.new ≡ slice_set totals.old c (joined_all blank joined (column blank cards.now rows (length totals.old) c)) }
+    ensures { totals.new ≡ slice_set totals.old c (joined_all C.blank C.joined (column C.blank cards.now rows (length totals.old) c)) }
 {
     totals[c] = column_total(cards, rows, totals.len(), c);
 }
@@ -46,7 +46,7 @@ fn write_column_total<C: Card>(cards: &[C], rows: usize, c: usize, totals: &mut 
 // The cards of column `c` joined.
 fn column_total<C: Card>(cards: &[C], rows: usize, columns: usize, c: usize) -> C
     requires { (length cards.now ≡ rows * columns) × (c < columns) }
-    ensures { result ≡ joined_all blank joined (column blank cards.now rows columns c) }
+    ensures { result ≡ joined_all C.blank C.joined (column C.blank cards.now rows columns c) }
 {
     let mut total = C::empty();
     for r in 0..rows {
@@ -58,7 +58,7 @@ fn column_total<C: Card>(cards: &[C], rows: usize, columns: usize, c: usize) -> 
 // The card in row `r` and column `c`.
 fn card_in<C: Card>(cards: &[C], columns: usize, r: usize, c: usize) -> C
     requires { r * columns + c < length cards.now }
-    ensures { result ≡ card_at blank cards.now columns r c }
+    ensures { result ≡ card_at C.blank cards.now columns r c }
 {
     cards[r * columns + c]
 }

@@ -2,7 +2,7 @@
 ghost use Rattle.std.specs.Prelude.{◌≡◌, length, is_ok, IfOk, if◌then◌else◌};
 ghost use Rattle.refusals.specs.First.{first_met};
 ghost use Rattle.crosstab.specs.Cards.{joined_all};
-ghost use Rattle.crosstab.specs.Tables.{row_totals, column_totals, cross_reasons, SameWhole};
+ghost use Rattle.crosstab.specs.Tables.{totals_by_row, totals_by_column, cross_reasons, SameWhole};
 
 use crate::Card;
 use crate::columns::write_column_totals;
@@ -19,10 +19,10 @@ pub fn cross_table<C: Card>(
     row_totals: &mut [C],
     column_totals: &mut [C],
 ) -> Result<C, Refusal>
-    ensures answer { result ≡ first_met (cross_reasons (length cards.now) rows columns (length row_totals.old) (length column_totals.old)) (joined_all blank joined cards.now) }
-    ensures row_buffer { row_totals.new ≡ (if is_ok result then row_totals blank joined cards.now rows columns else row_totals.old) }
-    ensures column_buffer { column_totals.new ≡ (if is_ok result then column_totals blank joined cards.now rows columns else column_totals.old) }
-    ensures same_whole { IfOk result (SameWhole blank joined row_totals.new column_totals.new) }
+    ensures answer { result ≡ first_met (cross_reasons (length cards.now) rows columns (length row_totals.old) (length column_totals.old)) (joined_all C.blank C.joined cards.now) }
+    ensures row_buffer { row_totals.new ≡ (if is_ok result then totals_by_row C.blank C.joined cards.now rows columns else row_totals.old) }
+    ensures column_buffer { column_totals.new ≡ (if is_ok result then totals_by_column C.blank C.joined cards.now rows columns else column_totals.old) }
+    ensures same_whole { IfOk result (SameWhole C.blank C.joined row_totals.new column_totals.new) }
 {
     both_totals(cards, rows, columns, row_totals, column_totals)
 }
@@ -35,9 +35,9 @@ fn both_totals<C: Card>(
     by_rows: &mut [C],
     by_columns: &mut [C],
 ) -> Result<C, Refusal>
-    ensures answer { result ≡ first_met (cross_reasons (length cards.now) rows columns (length by_rows.old) (length by_columns.old)) (joined_all blank joined cards.now) }
-    ensures row_buffer { by_rows.new ≡ (if is_ok result then row_totals blank joined cards.now rows columns else by_rows.old) }
-    ensures column_buffer { by_columns.new ≡ (if is_ok result then column_totals blank joined cards.now rows columns else by_columns.old) }
+    ensures answer { result ≡ first_met (cross_reasons (length cards.now) rows columns (length by_rows.old) (length by_columns.old)) (joined_all C.blank C.joined cards.now) }
+    ensures row_buffer { by_rows.new ≡ (if is_ok result then totals_by_row C.blank C.joined cards.now rows columns else by_rows.old) }
+    ensures column_buffer { by_columns.new ≡ (if is_ok result then totals_by_column C.blank C.joined cards.now rows columns else by_columns.old) }
 {
     if !fills(cards.len(), rows, columns) || by_rows.len() != rows || by_columns.len() != columns {
         return Err(Refusal::UnlikeLengths);

@@ -1,4 +1,6 @@
 // Cross-tables: the row totals, the column totals and the whole of a table of cards.
+#![tactic(auto)]
+
 mod card;
 mod charge_slip;
 mod charges;

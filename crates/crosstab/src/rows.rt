@@ -2,7 +2,7 @@
 ghost use Rattle.std.specs.Prelude.{◌≡◌, ◌+◌, ◌*◌, ◌^◌, ◌<◌, ◌≤◌, length, is_ok, if◌then◌else◌, slice_set};
 ghost use Rattle.refusals.specs.First.{first_met};
 ghost use Rattle.crosstab.specs.Cards.{joined_all};
-ghost use Rattle.crosstab.specs.Tables.{row, row_totals, row_reasons};
+ghost use Rattle.crosstab.specs.Tables.{row, totals_by_row, row_reasons};
 
 use crate::Card;
 use crate::table::{fills, joined_all};
@@ -16,7 +16,7 @@ pub fn row_totals<C: Card>(
     totals: &mut [C],
 ) -> Result<(), Refusal>
     ensures answer { result ≡ first_met (row_reasons (length cards.now) rows columns (length totals.old)) tt }
-    ensures buffer { totals.new ≡ (if is_ok result then row_totals blank joined cards.now rows columns else totals.old) }
+    ensures buffer { totals.new ≡ (if is_ok result then totals_by_row C.blank C.joined cards.now rows columns else totals.old) }
 {
     if !fills(cards.len(), rows, columns) || totals.len() != rows {
         return Err(Refusal::UnlikeLengths);
@@ -28,7 +28,7 @@ pub fn row_totals<C: Card>(
 // Writes the total of each row.
 pub(crate) fn write_row_totals<C: Card>(cards: &[C], columns: usize, totals: &mut [C])
     requires { length cards.now ≡ length totals.old * columns }
-    ensures { totals.new ≡ row_totals blank joined cards.now (length totals.old) columns }
+    ensures { totals.new ≡ totals_by_row C.blank C.joined cards.now (length totals.old) columns }
 {
     for r in 0..totals.len() {
         write_row_total(cards, columns, r, totals);
@@ -38,7 +38,7 @@ pub(crate) fn write_row_totals<C: Card>(cards: &[C], columns: usize, totals: &mu
 // Writes the total of row `r` to its place.
 fn write_row_total<C: Card>(cards: &[C], columns: usize, r: usize, totals: &mut [C])
     requires { (r * columns + columns ≤ length cards.now) × (r < length totals.old) }
-    ensures { totals.new ≡ slice_set totals.old r (joined_all blank joined (row blank cards.now columns r)) }
+    ensures { totals.new ≡ slice_set totals.old r (joined_all C.blank C.joined (row C.blank cards.now columns r)) }
 {
     totals[r] = row_total(cards, columns, r);
 }
@@ -46,7 +46,7 @@ fn write_row_total<C: Card>(cards: &[C], columns: usize, r: usize, totals: &mut 
 // The cards of row `r` joined.
 fn row_total<C: Card>(cards: &[C], columns: usize, r: usize) -> C
     requires { r * columns + columns ≤ length cards.now }
-    ensures { result ≡ joined_all blank joined (row blank cards.now columns r) }
+    ensures { result ≡ joined_all C.blank C.joined (row C.blank cards.now columns r) }
 {
     let start = row_start(columns, r);
     joined_all(&cards[start..start + columns])

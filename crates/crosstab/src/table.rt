@@ -9,7 +9,7 @@ use refusals::Refusal;
 
 /// All cards of a table joined.
 pub fn whole<C: Card>(cards: &[C], rows: usize, columns: usize) -> Result<C, Refusal>
-    ensures { result ≡ first_met (whole_reasons (length cards.now) rows columns) (joined_all blank joined cards.now) }
+    ensures { result ≡ first_met (whole_reasons (length cards.now) rows columns) (joined_all C.blank C.joined cards.now) }
 {
     if !fills(cards.len(), rows, columns) {
         return Err(Refusal::UnlikeLengths);
@@ -29,7 +29,7 @@ pub(crate) fn fills(cards: usize, rows: usize, columns: usize) -> bool
 
 // The cards joined, from the first.
 pub(crate) fn joined_all<C: Card>(cards: &[C]) -> C
-    ensures { result ≡ joined_all blank joined cards.now }
+    ensures { result ≡ joined_all C.blank C.joined cards.now }
 {
     let mut all = C::empty();
     for card in cards {

@@ -3,7 +3,7 @@ ghost use Rattle.std.specs.Prelude.{◌≡◌, ◌+◌, ◌*◌, ◌<◌, ◌≤
 ghost use Rattle.day_list.specs.Listing.{hours_text, day_text, end_text, answer_text};
 
 use crate::texts::{write_counts, write_heading, write_letter};
-use std::fmt;
+use std::alloc::AllocError;
 use tariff::BillingPeriod;
 
 // The first quarter of an hour, four quarters to the hour and 24 hours to the day.
@@ -15,7 +15,7 @@ fn first_quarter(number: u32, hour: u32) -> u32
 }
 
 // Writes the letters of a day's hours.
-fn write_hours(out: &mut String, period: &BillingPeriod, number: u32) -> fmt::Result
+fn write_hours(out: &mut String, period: &BillingPeriod, number: u32) -> Result<(), AllocError>
     requires { number < 31 }
     ensures { OnOk result (string_bytes out.new ≡ string_bytes out.old ++ hours_text period.now.terms number) }
 {
@@ -26,7 +26,7 @@ fn write_hours(out: &mut String, period: &BillingPeriod, number: u32) -> fmt::Re
 }
 
 // Writes the line of a day, where the billing period has the day.
-fn write_day(out: &mut String, period: &BillingPeriod, number: u32) -> fmt::Result
+fn write_day(out: &mut String, period: &BillingPeriod, number: u32) -> Result<(), AllocError>
     requires { number < 31 }
     ensures { OnOk result (string_bytes out.new ≡ string_bytes out.old ++ day_text period.now.terms number) }
 {
@@ -46,7 +46,7 @@ fn days_of(period: &BillingPeriod) -> u32
     period.quarters() / 96
 }
 
-fn write_end(out: &mut String, period: &BillingPeriod) -> fmt::Result
+fn write_end(out: &mut String, period: &BillingPeriod) -> Result<(), AllocError>
     ensures { OnOk result (string_bytes out.new ≡ string_bytes out.old ++ end_text period.now.terms) }
 {
     let days = days_of(period);
@@ -55,7 +55,7 @@ fn write_end(out: &mut String, period: &BillingPeriod) -> fmt::Result
 }
 
 // Writes every day, and how many there are.
-pub(crate) fn write_days(out: &mut String, period: &BillingPeriod) -> fmt::Result
+pub(crate) fn write_days(out: &mut String, period: &BillingPeriod) -> Result<(), AllocError>
     ensures { OnOk result (string_bytes out.new ≡ string_bytes out.old ++ answer_text (Ok period.now.terms)) }
 {
     for number in 0..days_of(period) {

@@ -1,4 +1,6 @@
 // The list of a billing period's days with their hours, from one line of numbers.
+#![tactic(auto)]
+
 mod days;
 mod list;
 mod request;

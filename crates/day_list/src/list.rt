@@ -9,11 +9,10 @@ use crate::request::{Request, request_in};
 use crate::texts::write_refusal;
 use lines::OutOfMemory;
 use refusals::Refusal;
-use std::alloc::Global;
-use std::fmt;
+use std::alloc::{AllocError, Global};
 
 // Writes the days that are asked for, or why they cannot be listed.
-fn write_answer(out: &mut String, request: Request) -> fmt::Result
+fn write_answer(out: &mut String, request: Request) -> Result<(), AllocError>
     ensures { OnOk result (string_bytes out.new ≡ string_bytes out.old ++ answer_text (terms_asked request)) }
 {
     match request.period() {

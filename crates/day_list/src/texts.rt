@@ -3,7 +3,7 @@ ghost use Rattle.std.specs.Prelude.{◌≡◌, ◌++◌, string_bytes, OnOk};
 ghost use Rattle.day_list.specs.Listing.{name_of, letter_of, letter_at, heading_text, counts_text, refusal_text};
 
 use refusals::Refusal;
-use std::fmt;
+use std::alloc::AllocError;
 use tariff::{Date, Day, Period, QuartersByPeriod, Weekday};
 
 fn name(weekday: Weekday) -> &'static str
@@ -32,7 +32,7 @@ fn letter(period: Period) -> &'static str
 }
 
 // Writes the letter of a quarter's period, where there is one.
-pub(crate) fn write_letter(out: &mut String, period: Option<Period>) -> fmt::Result
+pub(crate) fn write_letter(out: &mut String, period: Option<Period>) -> Result<(), AllocError>
     ensures { OnOk result (string_bytes out.new ≡ string_bytes out.old ++ letter_at period) }
 {
     let Some(period) = period else {
@@ -42,7 +42,7 @@ pub(crate) fn write_letter(out: &mut String, period: Option<Period>) -> fmt::Res
     write!(out, "{letter}")
 }
 
-pub(crate) fn write_heading(out: &mut String, number: u32, day: Day) -> fmt::Result
+pub(crate) fn write_heading(out: &mut String, number: u32, day: Day) -> Result<(), AllocError>
     ensures { OnOk result (string_bytes out.new ≡ string_bytes out.old ++ heading_text number day) }
 {
     let Date {
@@ -54,7 +54,7 @@ pub(crate) fn write_heading(out: &mut String, number: u32, day: Day) -> fmt::Res
     write!(out, "{number} {year} {month} {day_of_month} {weekday} ")
 }
 
-pub(crate) fn write_counts(out: &mut String, counts: QuartersByPeriod) -> fmt::Result
+pub(crate) fn write_counts(out: &mut String, counts: QuartersByPeriod) -> Result<(), AllocError>
     ensures { OnOk result (string_bytes out.new ≡ string_bytes out.old ++ counts_text counts) }
 {
     let QuartersByPeriod {
@@ -66,7 +66,7 @@ pub(crate) fn write_counts(out: &mut String, counts: QuartersByPeriod) -> fmt::R
     write!(out, " {peak} {half_peak} {saturday_half_peak} {off_peak}\n")
 }
 
-pub(crate) fn write_refusal(out: &mut String, refusal: Refusal) -> fmt::Result
+pub(crate) fn write_refusal(out: &mut String, refusal: Refusal) -> Result<(), AllocError>
     ensures { OnOk result (string_bytes out.new ≡ string_bytes out.old ++ refusal_text refusal) }
 {
     let reason = refusal.number();

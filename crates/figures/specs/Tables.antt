@@ -8,7 +8,7 @@ use Rattle.crosstab.specs.declared.period_card.PeriodCard.{PeriodCard}
 use Rattle.crosstab.specs.Amounts.{stopping_sum, any_above_zero, AllFit}
 use Rattle.crosstab.specs.Cards.{joined_all}
 use Rattle.crosstab.specs.Kinds.{periods_of, joined_periods, slip_of, joined_slips}
-use Rattle.crosstab.specs.Tables.{row_totals, column_totals, whole_reasons, row_reasons, column_reasons, cross_reasons}
+use Rattle.crosstab.specs.Tables.{totals_by_row, totals_by_column, whole_reasons, row_reasons, column_reasons, cross_reasons}
 
 -- Two rows of three amounts, joined by their sum.
 abbrev pub amounts : List ℕ
@@ -26,8 +26,8 @@ abbrev pub answer : List Reason → Result (Unit {0}) Refusal
 answer reasons = first_met reasons tt
 
 pub record TableFigures : Type 0 where
-  pub totals_of_rows : row_totals 0 ◌+◌ amounts 2 3 ≡ 111 ∷ 555 ∷ []
-  pub totals_of_columns : column_totals 0 ◌+◌ amounts 2 3 ≡ 6 ∷ 60 ∷ 600 ∷ []
+  pub totals_of_rows : totals_by_row 0 ◌+◌ amounts 2 3 ≡ 111 ∷ 555 ∷ []
+  pub totals_of_columns : totals_by_column 0 ◌+◌ amounts 2 3 ≡ 6 ∷ 60 ∷ 600 ∷ []
   pub whole_of_both : joined_all 0 ◌+◌ amounts ≡ 666
   -- the sum, and where it stops
   pub sum : stopping_sum 1 2 ≡ 3

@@ -1,4 +1,6 @@
 // The worked figures of the product: one theorem about its definitions, and tests that run its code on the same figures.
+#![tactic(auto)]
+
 ghost use Rattle.figures.specs.Figures.{Figures};
 ghost use Rattle.figures.specs.Periods.{PeriodFigures};
 ghost use Rattle.figures.specs.QuarterRecords.{RecordFigures};

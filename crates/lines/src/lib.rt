@@ -1,4 +1,6 @@
 // Text cut at a mark, the decimal numbers of a line, and want of memory for a text.
+#![tactic(auto)]
+
 ghost use Rattle.std.specs.Prelude.{◌≡◌, ℕ, ◌^◌, ◌<◌, List, length, IfSome, IfOk, Some, vec_items, decimal as spelled};
 ghost use Rattle.lines.specs.Cuts.{before, after, CutAt};
 ghost use Rattle.lines.specs.Decimals.{number_in, plain_start, digits_on, with_digit};

@@ -1,4 +1,6 @@
 // Reads the numbers of a billing period from standard input, and prints its days with their hours.
+#![tactic(auto)]
+
 use anyhow::anyhow;
 use day_list::list_of;
 use std::io::Read;

@@ -12,9 +12,9 @@ pub fn divide_over_four<R: SharingRule>(
     amount: u32,
     weights: &[u32; 4],
 ) -> Result<[u32; 4], Refusal>
-    ensures answer { result ≡ first_met (reasons amount weights.now 4) (meaning rule.now amount weights.now) }
+    ensures answer { result ≡ first_met (reasons amount weights.now 4) (R.meaning rule.now amount weights.now) }
     ensures nothing_lost { IfOk result (λ shares. sum shares ≡ amount) }
-    ensures near_exact { IfOk result (NearExact (tolerance rule.now) amount weights.now) }
+    ensures near_exact { IfOk result (NearExact (R.tolerance rule.now) amount weights.now) }
     ensures first_reason { Decides (reasons amount weights.now 4) result }
 {
     four_shares(rule, amount, weights)
@@ -26,7 +26,7 @@ fn four_shares<R: SharingRule>(
     amount: u32,
     weights: &[u32; 4],
 ) -> Result<[u32; 4], Refusal>
-    ensures { result ≡ first_met (reasons amount weights.now 4) (meaning rule.now amount weights.now) }
+    ensures { result ≡ first_met (reasons amount weights.now 4) (R.meaning rule.now amount weights.now) }
 {
     let mut shares = [0; 4];
     rule.split(amount, weights, &mut shares)?;

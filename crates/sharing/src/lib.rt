@@ -1,4 +1,6 @@
 // Sharing an amount over a list of weights in whole units, with nothing lost.
+#![tactic(auto)]
+
 mod four_places;
 mod left_over;
 mod portion;

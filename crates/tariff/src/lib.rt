@@ -1,4 +1,6 @@
 // Tariff periods: which period each quarter hour of a billing period is in.
+#![tactic(auto)]
+
 mod billing_period;
 mod counts;
 mod dates;

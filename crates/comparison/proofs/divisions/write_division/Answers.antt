@@ -18,18 +18,18 @@ write_places-requires c =
       left = ap length c.as_slice-in-Ok-Ok.ensures.value ∙ as_many left_over 1 left_over_laws a ws _ l;
     }
 
-pub returns-in_ok-write_places : goal.returns-in_ok-write_places
-returns-in_ok-write_places c =
+pub returns-in_ok-write_places-in-Ok-Ok : goal.returns-in_ok-write_places-in-Ok-Ok
+returns-in_ok-write_places-in-Ok-Ok c =
     let a = c.args.amount in
     let ws = c.args.weights.now in
     let r = ap Ok c.as_slice.ensures.value ∙ ap (result_map_both vec_items (λ e. e)) (sym c.in-Ok-Ok.is-0) ∙ c.in_ok-running.ensures in
     let l = ap Ok c.as_slice-in-Ok-Ok.ensures.value ∙ ap (result_map_both vec_items (λ e. e)) (sym c.in-Ok-Ok.is-1) ∙ c.in_ok-left_over.ensures in
-    division_written c.args.number a ws _ _ _ _ _ r l c.in_ok-write_heading.ensures c.in_ok-write_places.ensures
+    division_written c.args.number a ws _ _ _ _ _ r l c.in_ok-write_heading-in-Ok-Ok.ensures c.in_ok-write_places-in-Ok-Ok.ensures
 
-pub returns-in_ok-write_refusal : goal.returns-in_ok-write_refusal
-returns-in_ok-write_refusal c =
+pub returns-in_ok-write_refusal-in-Err-default : goal.returns-in_ok-write_refusal-in-Err-default
+returns-in_ok-write_refusal-in-Err-default c =
     let refused = ap (result_map_both vec_items (λ e. e)) (sym c.in-Err-default.is-0) ∙ c.in_ok-running.ensures in
-    refusal_written c.args.number c.args.amount c.args.weights.now _ _ c.in-Err-default.refusal refused c.in_ok-write_refusal.ensures
+    refusal_written c.args.number c.args.amount c.args.weights.now _ _ c.in-Err-default.refusal refused c.in_ok-write_refusal-in-Err-default.ensures
 
 pub unreachable-requires : goal.unreachable-requires
 unreachable-requires c =

@@ -9,7 +9,7 @@ loop-init c = sym (weekdays_after_none c.args.self)
 
 pub loop-preserved : goal.loop-preserved
 loop-preserved c =
-    c.next_weekday.ensures ∙ ap weekday_after c.loop.invariant ∙ sym (weekdays_after_more c.loop.counter c.args.self)
+    c.next-weekday.ensures ∙ ap weekday_after c.loop.invariant ∙ sym (weekdays_after_more c.loop.counter c.args.self)
 
 pub returns : goal.returns
 returns c =
