@@ -2,11 +2,11 @@
 use Rattle.std.proofs.Common.{◌≡◌, ℕ, List, ◌++◌, length, Ok, Err, sym, ap, ◌∙◌, append_assoc, arith}
 use Rattle.refusals.specs.declared.Refusal.{Refusal}
 use Rattle.refusals.specs.First.{first_met}
-use Rattle.refusals.proofs.FirstDecides.{served_value, served_with, refused_with}
+use Rattle.refusals.proofs.FirstDecides.{served_value, served_with}
 use Rattle.sharing.specs.Rule.{Laws, reasons}
 use Rattle.sharing.specs.RunningTotal.{running}
 use Rattle.sharing.specs.LeftOver.{left_over}
-use Rattle.comparison.specs.Report.{places_text, heading_text, refusal_text, answer_text, division_text}
+use Rattle.comparison.specs.Report.{places_text, heading_text, answer_text, division_text}
 
 -- The shares that a lawful rule answers are as many as the weights.
 pub as_many : (shares : ℕ → List ℕ → List ℕ) (t : ℕ) → Laws shares t → (amount : ℕ) (weights given : List ℕ) → Ok given ≡ first_met (reasons amount weights (length weights)) (shares amount weights) → length given ≡ length weights
@@ -29,13 +29,6 @@ division_written number a ws rs ls start headed done by_running by_left_over hea
     ∙ ap (λ xs. start ++ (heading_text number a ++ places_text ws xs ls)) r
     ∙ ap (λ xs. start ++ (heading_text number a ++ places_text ws (running a ws) xs)) l
     ∙ ap (λ answer. start ++ answer_text number a ws answer) served
-
--- The text where a rule refuses.
-pub refusal_written : (number amount : ℕ) (weights start done : List ℕ) (refusal : Refusal) →
-    Err refusal ≡ first_met (reasons amount weights (length weights)) (running amount weights) → done ≡ start ++ refusal_text number refusal →
-    done ≡ start ++ division_text number amount weights
-refusal_written number a ws start done refusal refused written =
-    written ∙ ap (λ answer. start ++ answer_text number a ws answer) (refused_with (reasons a ws (length ws)) refusal (running a ws) tt refused)
 
 -- Two rules refuse alike: where one is served, the other is not refused.
 pub served_alike : {A B : Type 0} (amount : ℕ) (weights : List ℕ) (places : ℕ) (given x : A) (refusal : Refusal) (y : B) →

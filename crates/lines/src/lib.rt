@@ -126,8 +126,8 @@ mod tests {
     #[test]
     fn cuts_and_decimals(rt: HostRuntime) -> Result<(), Fail> {
         let (front, rest) = cut(b"10 20", b' ');
-        assert!(rt; front == b"10");
-        assert!(rt; rest.ok_or("no rest")? == b"20");
+        assert!(rt; front == b"10".as_slice());
+        assert!(rt; rest.ok_or("no rest")? == b"20".as_slice());
         assert!(rt; cut(b"10", b' ').1.is_none());
         assert_eq!(rt; decimal(b"0"), Some(0));
         assert_eq!(rt; decimal(b"4294967295"), Some(4_294_967_295));
@@ -140,7 +140,7 @@ mod tests {
     #[test]
     fn lines_of_numbers(rt: HostRuntime) -> Result<(), Fail> {
         let found = numbers(rt.alloc(), b"10 1 1")?.ok_or("no numbers")?;
-        assert!(rt; found.as_slice() == [10, 1, 1]);
+        assert!(rt; found.as_slice() == [10, 1, 1].as_slice());
         for line in ["10  1", " 1", "1 ", ""] {
             assert!(rt; numbers(rt.alloc(), line.as_bytes())?.is_none(), "{}", line);
         }

@@ -1,5 +1,5 @@
 -- Where the numbers of the reasons rise, the first reason met has the smallest number of those met. Assumes nothing.
-use Rattle.std.proofs.Common.{◌≡◌, ℕ, ◌<◌, Bool, true, false, cond, List, [], ◌∷◌, Ok, Err, Result, refl, ap, inl, inr, arith}
+use Rattle.std.proofs.Common.{◌≡◌, ℕ, ◌<◌, Bool, true, false, cond, List, [], ◌∷◌, Ok, Err, Result, refl, inl, inr, arith}
 use Rattle.refusals.specs.declared.Refusal.{Refusal}
 use Rattle.refusals.specs.Numbers.{number_of}
 use Rattle.refusals.specs.First.{Reason, first_met, Each, Decides, Rising}
@@ -45,14 +45,3 @@ pub served_with : {A B : Type 0} (reasons : List Reason) (a x : A) (y : B) → O
 served_with [] a x y e = refl
 served_with (reason ∷ rest) a x y e =
     with_past a y reason.refusal reason.met (first_met rest x) (first_met rest y) (served_with rest a x y) e
-
--- A call that is refused with one value is refused for the same reason with any other.
-refused_past : {A B : Type 0} (refusal reason : Refusal) (b : Bool) (r : Result A Refusal) (s : Result B Refusal) → (Err refusal ≡ r → Err refusal ≡ s) →
-    Err refusal ≡ cond b (Err reason) r → Err refusal ≡ cond b (Err reason) s
-refused_past refusal reason true r s past e = let same : refusal ≡ reason = cc in ap Err same
-refused_past refusal reason false r s past e = past e
-
-pub refused_with : {A B : Type 0} (reasons : List Reason) (refusal : Refusal) (x : A) (y : B) → Err refusal ≡ first_met reasons x → Err refusal ≡ first_met reasons y
-refused_with [] refusal x y e = let z : ◌≡◌ {A = ℕ} 0 1 = cc in absurd (omega arith)
-refused_with (reason ∷ rest) refusal x y e =
-    refused_past refusal reason.refusal reason.met (first_met rest x) (first_met rest y) (refused_with rest refusal x y) e

@@ -4,7 +4,7 @@ use Rattle.sharing.specs.RunningTotal.{running}
 use Rattle.sharing.specs.LeftOver.{left_over}
 use Rattle.sharing.specs.RunningLaws.{running_laws}
 use Rattle.sharing.specs.LeftOverLaws.{left_over_laws}
-use Rattle.comparison.proofs.Answered.{as_many, division_written, refusal_written, served_alike}
+use Rattle.comparison.proofs.Answered.{as_many, division_written, served_alike}
 use Rattle.comparison.proofs.divisions.write_division.Goals as goal
 
 pub write_places-requires : goal.write_places-requires
@@ -25,11 +25,6 @@ returns-in_ok-write_places-in-Ok-Ok c =
     let r = ap Ok c.as_slice.ensures.value ∙ ap (result_map_both vec_items (λ e. e)) (sym c.in-Ok-Ok.is-0) ∙ c.in_ok-running.ensures in
     let l = ap Ok c.as_slice-in-Ok-Ok.ensures.value ∙ ap (result_map_both vec_items (λ e. e)) (sym c.in-Ok-Ok.is-1) ∙ c.in_ok-left_over.ensures in
     division_written c.args.number a ws _ _ _ _ _ r l c.in_ok-write_heading-in-Ok-Ok.ensures c.in_ok-write_places-in-Ok-Ok.ensures
-
-pub returns-in_ok-write_refusal-in-Err-default : goal.returns-in_ok-write_refusal-in-Err-default
-returns-in_ok-write_refusal-in-Err-default c =
-    let refused = ap (result_map_both vec_items (λ e. e)) (sym c.in-Err-default.is-0) ∙ c.in_ok-running.ensures in
-    refusal_written c.args.number c.args.amount c.args.weights.now _ _ c.in-Err-default.refusal refused c.in_ok-write_refusal-in-Err-default.ensures
 
 pub unreachable-requires : goal.unreachable-requires
 unreachable-requires c =
