@@ -10,7 +10,7 @@ use Rattle.std.proofs.lemmas.Bool.{and_parts, ne_eqb}
 use Rattle.std.proofs.lemmas.Bool.Decides.{nat_tests}
 use Rattle.std.specs.Option.{option_map}
 use Rattle.std.specs.Char.{is_ascii_digit}
-use Rattle.std.specs.List.{AllByRecursion as All}
+use Rattle.std.specs.List.{AllByRecursion}
 use Rattle.std.specs.Str.{all_ascii_digits}
 
 -- the numbers that have been read, with those of what is left
@@ -85,7 +85,7 @@ first_back n text h none =
     ∙ ap (λ o. option_map (λ ns. n ∷ ns) (each_number (pieces_left 32 o))) p.1
 
 -- how numbers are written is read as those numbers
-pub numbers_back : (ns : List ℕ) → 0 < length ns → All (λ n. n < 2 ^ 32) ns → numbers_in (written ns) ≡ Some ns
+pub numbers_back : (ns : List ℕ) → 0 < length ns → AllByRecursion (λ n. n < 2 ^ 32) ns → numbers_in (written ns) ≡ Some ns
 numbers_back [] some small = absurd (omega arith)
 numbers_back (n ∷ []) some small = ap numbers_in (sym (append-nil (decimal n))) ∙ first_back n [] small.0 refl
 numbers_back (n ∷ m ∷ ns) some small =

@@ -3,7 +3,7 @@ use Rattle.std.specs.Prelude.{◌≡◌, ℕ, ◌^◌, ◌<◌, List, [], ◌∷
 use Rattle.lines.specs.Cuts.{pieces}
 use Rattle.lines.specs.Decimals.{and_then, number_in}
 use Rattle.std.specs.Option.{option_map}
-use Rattle.std.specs.List.{AllByRecursion as All}
+use Rattle.std.specs.List.{AllByRecursion}
 
 -- the number in each text, unless one is no number
 abbrev pub each_number : List (List ℕ) → Option (List ℕ)
@@ -21,4 +21,4 @@ written (n ∷ m ∷ ns) = decimal n ++ 32 ∷ written (m ∷ ns)
 
 -- line is how these numbers are written, which are some, each below 2 ^ 32
 abbrev pub Writes : List ℕ → List ℕ → Type 0
-Writes ns line = (0 < length ns) × All (λ n. n < 2 ^ 32) ns × (line ≡ written ns)
+Writes ns line = (0 < length ns) × AllByRecursion (λ n. n < 2 ^ 32) ns × (line ≡ written ns)
