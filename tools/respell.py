@@ -25,11 +25,15 @@ GIVEN = {
     # Their snake case is the name of a parameter of a function whose clauses cite them.
     "row-totals": "totals_by_row",
     "column-totals": "totals_by_column",
+    # Its snake case is the name of the function that answers the whole report.
+    "report-on": "report_from",
     "told-length": "told_length",
     "right-length": "right_length",
     "row-length": "row_length",
     "sum-suc": "sum_suc",
 }
+# Names that port.py had not spelled well.
+MENDED = {"get_d_at": "get_or_at", "after_Line": "after_line"}
 # Names that port.py has respelled in the sources, but not in edits and pages.
 ALREADY = ["left-over", "whole-parts", "number-of", "lines-of", "word-of", "line-of", "name-of", "map-of", "byte-of", "field-of", "bit-of"]
 # Words of generated names that are of two parts.
@@ -117,6 +121,8 @@ def made_name(name, words):
 def respell(line, names, words, imported, proof_of_function):
     def turn(m):
         w = m[0]
+        if w in MENDED:
+            return MENDED[w]
         if "-" not in w or not re.search(r"[A-Za-z]", w) or w[0] == "-" or w[-1] == "-":
             return w
         before = line_now[: m.start()]

@@ -3,7 +3,7 @@ use Rattle.std.proofs.Common.{◌≡◌, ℕ, ◌+◌, ◌<◌, Bool, true, fals
 use Rattle.std.proofs.lemmas.Bool.{cases_eq, eq-eqb, ne_eqb}
 use Rattle.lines.specs.Cuts.{before, after}
 use Rattle.comparison.specs.Lines.{onto, lines_of, EachWithoutNewline, CutIntoLines}
-use Rattle.comparison.specs.Report.{line_text, report_on}
+use Rattle.comparison.specs.Report.{line_text, report_from}
 
 -- A byte more in front, by whether it is a newline.
 byte_more : (b : ℕ) (bs : List ℕ) (newline : Bool) → onto b (lines_of bs) ≡ (b ∷ before 10 bs) ∷ lines_of (unwrap_or (after 10 bs) []) →
@@ -21,13 +21,13 @@ lines_step [] some = absurd (omega arith)
 lines_step (b ∷ bs) some = first_line b bs
 
 -- One line more is written.
-pub line_more : (count : ℕ) (text rest written after_Line report : List ℕ) → 0 < length text → written ++ report_on count (lines_of text) ≡ report →
-    rest ≡ unwrap_or (after 10 text) [] → after_Line ≡ written ++ line_text (count + 1) (before 10 text) → after_Line ++ report_on (count + 1) (lines_of rest) ≡ report
-line_more count text rest written after_Line report some so_far left line =
-    ap (λ bs. bs ++ report_on (count + 1) (lines_of rest)) line
-    ∙ append_assoc written (line_text (count + 1) (before 10 text)) (report_on (count + 1) (lines_of rest))
-    ∙ ap (λ bs. written ++ (line_text (count + 1) (before 10 text) ++ report_on (count + 1) (lines_of bs))) left
-    ∙ ap (λ ls. written ++ report_on count ls) (sym (lines_step text some))
+pub line_more : (count : ℕ) (text rest written after_line report : List ℕ) → 0 < length text → written ++ report_from count (lines_of text) ≡ report →
+    rest ≡ unwrap_or (after 10 text) [] → after_line ≡ written ++ line_text (count + 1) (before 10 text) → after_line ++ report_from (count + 1) (lines_of rest) ≡ report
+line_more count text rest written after_line report some so_far left line =
+    ap (λ bs. bs ++ report_from (count + 1) (lines_of rest)) line
+    ∙ append_assoc written (line_text (count + 1) (before 10 text)) (report_from (count + 1) (lines_of rest))
+    ∙ ap (λ bs. written ++ (line_text (count + 1) (before 10 text) ++ report_from (count + 1) (lines_of bs))) left
+    ∙ ap (λ ls. written ++ report_from count ls) (sym (lines_step text some))
     ∙ so_far
 
 pub no_lines : (text : List ℕ) → length text ≡ 0 → lines_of text ≡ []

@@ -50,9 +50,9 @@ abbrev pub line_text : ℕ → List ℕ → List ℕ
 line_text number line = numbers_text number (numbers_in line)
 
 -- The lines from here on, after so many, and how many there were.
-abbrev pub report_on : ℕ → List (List ℕ) → List ℕ
-report_on before [] = codes "lines " ++ (decimal before ++ codes "\n")
-report_on before (line ∷ rest) = line_text (before + 1) line ++ report_on (before + 1) rest
+abbrev pub report_from : ℕ → List (List ℕ) → List ℕ
+report_from before [] = codes "lines " ++ (decimal before ++ codes "\n")
+report_from before (line ∷ rest) = line_text (before + 1) line ++ report_from (before + 1) rest
 
 abbrev pub report_text : List ℕ → List ℕ
-report_text input = report_on 0 (lines_of input)
+report_text input = report_from 0 (lines_of input)

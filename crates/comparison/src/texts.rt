@@ -1,6 +1,6 @@
 // The pieces of a report's text, each written at the end of what there is.
 ghost use Rattle.std.specs.Prelude.{◌≡◌, [], ◌++◌, length, string_bytes, OnOk};
-ghost use Rattle.comparison.specs.Report.{word_of, place_text, places_text, heading_text, refusal_text, report_on};
+ghost use Rattle.comparison.specs.Report.{word_of, place_text, places_text, heading_text, refusal_text, report_from};
 
 use refusals::Refusal;
 use std::alloc::AllocError;
@@ -66,7 +66,7 @@ pub(crate) fn write_refusal(
 }
 
 pub(crate) fn write_end(out: &mut String, lines: usize) -> Result<(), AllocError>
-    ensures { OnOk result (string_bytes out.new ≡ string_bytes out.old ++ report_on lines []) }
+    ensures { OnOk result (string_bytes out.new ≡ string_bytes out.old ++ report_from lines []) }
 {
     write!(out, "lines {lines}\n")
 }

@@ -47,8 +47,8 @@ pub record State (a : ℕ) (ws : List ℕ) (left : ℕ) (rests shares : List ℕ
   pub enough : left * sum ws ≤ sum rests
   pub fair : (k : ℕ) → Fair a (slice_index ws k) (sum ws) (slice_index shares k) (slice_index rests k)
 
-get_d_at : (f : ℕ → ℕ) → f 0 ≡ 0 → (xs : List ℕ) (k : ℕ) → slice_index (map f xs) k ≡ f (slice_index xs k)
-get_d_at f e xs k =
+get_or_at : (f : ℕ → ℕ) → f 0 ≡ 0 → (xs : List ℕ) (k : ℕ) → slice_index (map f xs) k ≡ f (slice_index xs k)
+get_or_at f e xs k =
     elim (cases_lt k (length xs)) [
       | inl h ↦ get_or-map f xs k 0 0 h
       | inr h ↦ let past : length (map f xs) ≤ k = omega (arith, length-map xs f) in
@@ -56,10 +56,10 @@ get_d_at f e xs k =
     ]
 
 pub part_at : (a : ℕ) (ws : List ℕ) (k : ℕ) → slice_index (whole_parts a ws) k ≡ a * slice_index ws k / sum ws
-part_at a ws k = get_d_at (λ w. a * w / sum ws) (ap (λ p. p / sum ws) (mul-zero a) ∙ zero-div (sum ws)) ws k
+part_at a ws k = get_or_at (λ w. a * w / sum ws) (ap (λ p. p / sum ws) (mul-zero a) ∙ zero-div (sum ws)) ws k
 
 pub rest_at : (a : ℕ) (ws : List ℕ) (k : ℕ) → slice_index (remainders a ws) k ≡ a * slice_index ws k % sum ws
-rest_at a ws k = get_d_at (λ w. a * w % sum ws) (ap (λ p. p % sum ws) (mul-zero a) ∙ zero-mod (sum ws)) ws k
+rest_at a ws k = get_or_at (λ w. a * w % sum ws) (ap (λ p. p % sum ws) (mul-zero a) ∙ zero-mod (sum ws)) ws k
 
 -- one whole part more, and all that are shared so far
 pub part_more : (a : ℕ) (ws : List ℕ) (i : ℕ) → sum (take (i + 1) (whole_parts a ws)) ≡ sum (take i (whole_parts a ws)) + a * slice_index ws i / sum ws

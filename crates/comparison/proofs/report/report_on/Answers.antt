@@ -1,7 +1,7 @@
 use Rattle.std.proofs.Common.{◌≡◌, ℕ, ◌+◌, ◌<◌, List, [], ◌++◌, length, IfSome, Some, None, string_bytes, Option, unwrap_or, sym, refl, ap, ◌∙◌, arith, Bor, true-eqb, false-eqb}
 use Rattle.std.specs.Option.{option_map}
 use Rattle.lines.specs.Cuts.{after}
-use Rattle.comparison.specs.Report.{line_text, report_on}
+use Rattle.comparison.specs.Report.{line_text, report_from}
 use Rattle.comparison.proofs.LineByLine.{line_more, no_lines, cut_into_lines}
 use Rattle.comparison.proofs.report.report_on.Goals as goal
 
@@ -32,7 +32,7 @@ returns c =
     record {
       text =
           c.in_ok-write_end.ensures
-          ∙ ap (λ ls. string_bytes c.loop-left.out ++ report_on c.loop-left.count ls) (sym (no_lines text (true-eqb (length text) 0 c.loop-left-test.ensures)))
+          ∙ ap (λ ls. string_bytes c.loop-left.out ++ report_from c.loop-left.count ls) (sym (no_lines text (true-eqb (length text) 0 c.loop-left-test.ensures)))
           ∙ c.loop-left.invariant.0;
       every_line = cut_into_lines c.args.input.now;
     }
