@@ -1,9 +1,8 @@
 -- A text by its first line and the rest. Assumes nothing.
-use Rattle.std.proofs.Common.{◌≡◌, ℕ, ◌+◌, ◌<◌, Bool, true, false, cond, eqb, List, [], ◌∷◌, ◌++◌, length, Some, unwrap_or, sym, refl, ap, ◌∙◌, inl, inr, append_assoc, arith}
+use Rattle.std.proofs.Common.{◌≡◌, ℕ, ◌+◌, ◌<◌, ◌≤◌, Bool, true, false, cond, eqb, List, [], ◌∷◌, ◌++◌, length, Some, unwrap_or, sym, refl, ap, ◌∙◌, inl, inr, arith}
 use Rattle.std.proofs.lemmas.Bool.{cases_eq, eq-eqb, ne_eqb}
 use Rattle.lines.specs.Cuts.{before, after}
 use Rattle.comparison.specs.Lines.{onto, lines_of, EachWithoutNewline, CutIntoLines}
-use Rattle.comparison.specs.Report.{line_text, report_from}
 
 -- A byte more in front, by whether it is a newline.
 byte_more : (b : ℕ) (bs : List ℕ) (newline : Bool) → onto b (lines_of bs) ≡ (b ∷ before 10 bs) ∷ lines_of (unwrap_or (after 10 bs) []) →
@@ -20,19 +19,18 @@ pub lines_step : (text : List ℕ) → 0 < length text → lines_of text ≡ bef
 lines_step [] some = absurd (omega arith)
 lines_step (b ∷ bs) some = first_line b bs
 
--- One line more is written.
-pub line_more : (count : ℕ) (text rest written after_line report : List ℕ) → 0 < length text → written ++ report_from count (lines_of text) ≡ report →
-    rest ≡ unwrap_or (after 10 text) [] → after_line ≡ written ++ line_text (count + 1) (before 10 text) → after_line ++ report_from (count + 1) (lines_of rest) ≡ report
-line_more count text rest written after_line report some so_far left line =
-    ap (λ bs. bs ++ report_from (count + 1) (lines_of rest)) line
-    ∙ append_assoc written (line_text (count + 1) (before 10 text)) (report_from (count + 1) (lines_of rest))
-    ∙ ap (λ bs. written ++ (line_text (count + 1) (before 10 text) ++ report_from (count + 1) (lines_of bs))) left
-    ∙ ap (λ ls. written ++ report_from count ls) (sym (lines_step text some))
-    ∙ so_far
+-- A line has a byte at least.
+few_more : (b : ℕ) (lines : List (List ℕ)) (n : ℕ) → length lines ≤ n → length (onto b lines) ≤ n + 1
+few_more b [] n few = omega arith
+few_more b (line ∷ rest) n few = omega arith
 
-pub no_lines : (text : List ℕ) → length text ≡ 0 → lines_of text ≡ []
-no_lines [] none = refl
-no_lines (b ∷ bs) none = absurd (omega arith)
+few_with : (b : ℕ) (lines : List (List ℕ)) (n : ℕ) (newline : Bool) → length lines ≤ n → length (cond newline ([] ∷ lines) (onto b lines)) ≤ n + 1
+few_with b lines n true few = omega arith
+few_with b lines n false few = few_more b lines n few
+
+pub few_lines : (text : List ℕ) → length (lines_of text) ≤ length text
+few_lines [] = omega arith
+few_lines (b ∷ bs) = omega (arith, few_with b (lines_of bs) (length bs) (eqb b 10) (few_lines bs))
 
 -- A byte more in front of a text, by whether it is a newline.
 no_newline_more : (b : ℕ) (lines : List (List ℕ)) → (b ≡ 10 → ⊥) → EachWithoutNewline lines → EachWithoutNewline (onto b lines)

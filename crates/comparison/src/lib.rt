@@ -1,9 +1,9 @@
 // A report that compares the two sharing rules, line by line.
 #![tactic(auto)]
 
-mod divisions;
+mod division;
+mod error;
+mod input_lines;
 mod report;
-mod texts;
 
-pub use lines::OutOfMemory;
 pub use report::report_on;

@@ -9,21 +9,11 @@ use Rattle.tariff.specs.declared.hours.Period.{Period}
 use Rattle.tariff.specs.declared.hours.Period.TheVariants.{Peak, HalfPeak, SaturdayHalfPeak, OffPeak}
 use Rattle.tariff.specs.declared.terms.Day.{Day}
 use Rattle.tariff.specs.declared.terms.Terms.{Terms}
-use Rattle.tariff.specs.declared.weekdays.Weekday.{Weekday}
-use Rattle.tariff.specs.declared.weekdays.Weekday.TheVariants.{Monday, Tuesday, Wednesday, Thursday, Friday, Saturday, Sunday}
 use Rattle.tariff.specs.BillingPeriods.{day_at, quarters_of, period_on, period_at}
 use Rattle.tariff.specs.Counts.{counted}
+use Rattle.tariff.specs.Weekdays.{name_of}
 use Rattle.day_list.specs.declared.request.Request.{Request}
 use Rattle.day_list.specs.Requests.{request_in, terms_asked}
-
-abbrev pub name_of : Weekday → List ℕ
-name_of Monday = codes "Monday"
-name_of Tuesday = codes "Tuesday"
-name_of Wednesday = codes "Wednesday"
-name_of Thursday = codes "Thursday"
-name_of Friday = codes "Friday"
-name_of Saturday = codes "Saturday"
-name_of Sunday = codes "Sunday"
 
 abbrev pub letter_of : Period → List ℕ
 letter_of Peak = codes "P"

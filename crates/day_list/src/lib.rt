@@ -2,8 +2,8 @@
 #![tactic(auto)]
 
 mod days;
+mod hours;
 mod list;
 mod request;
-mod texts;
 
 pub use list::list_of;

@@ -1,4 +1,4 @@
-// Text cut at a mark, the decimal numbers of a line, and want of memory for a text.
+// Text cut at a mark, and the decimal numbers of a line.
 #![tactic(auto)]
 
 ghost use Rattle.std.specs.Prelude.{◌≡◌, ℕ, ◌^◌, ◌<◌, List, length, IfSome, IfOk, Some, vec_items, decimal as spelled};
@@ -8,10 +8,6 @@ ghost use Rattle.lines.specs.Numbers.{numbers_in, Writes};
 ghost use Rattle.std.specs.Option.{option_map};
 
 use std::alloc::{AllocError, Global};
-
-mod memory;
-
-pub use memory::OutOfMemory;
 
 // Where the first `mark` stands.
 fn position(text: &[u8], mark: u8) -> Option<usize>

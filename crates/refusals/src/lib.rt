@@ -1,8 +1,11 @@
 // Why a call is refused. One enum serves the whole product.
 #![tactic(auto)]
 
-ghost use Rattle.std.specs.Prelude.{◌≡◌};
-ghost use Rattle.refusals.specs.Numbers.{number_of};
+ghost use Rattle.std.specs.Prelude.{◌≡◌, Some};
+ghost use Rattle.refusals.specs.Numbers.{number_of, printed};
+
+use std::error::Error;
+use std::fmt;
 
 /// A reason to refuse a call. The call then changes nothing.
 #[derive(Clone, Copy, PartialEq, Eq, Debug)]
@@ -42,3 +45,14 @@ impl Refusal {
         }
     }
 }
+
+impl fmt::Display for Refusal {
+    ghost output = { λ refusal. Some (printed refusal) };
+
+    fn fmt<W: fmt::Write>(&self, f: &mut fmt::Formatter<W>) -> fmt::Result {
+        let number = self.number();
+        write!(f, "refusal {number}")
+    }
+}
+
+impl Error for Refusal {}

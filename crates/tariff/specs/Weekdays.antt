@@ -1,5 +1,5 @@
 -- Weekdays, counted from the first day of 2020. Assumes nothing.
-use Rattle.std.specs.Prelude.{ℕ, zero, suc, ◌+◌, ◌-◌}
+use Rattle.std.specs.Prelude.{ℕ, zero, suc, ◌+◌, ◌-◌, List, codes}
 use Rattle.tariff.specs.declared.dates.Date.{Date}
 use Rattle.tariff.specs.declared.weekdays.Weekday.{Weekday}
 use Rattle.tariff.specs.declared.weekdays.Weekday.TheVariants.{Monday, Tuesday, Wednesday, Thursday, Friday, Saturday, Sunday}
@@ -36,3 +36,12 @@ days_since_2020 date = days_of_years (date.year - 2020) + days_of_months date.ye
 -- 1 January 2020 was a Wednesday.
 abbrev pub weekday_of : Date → Weekday
 weekday_of date = weekdays_after (days_since_2020 date) Wednesday
+
+abbrev pub name_of : Weekday → List ℕ
+name_of Monday = codes "Monday"
+name_of Tuesday = codes "Tuesday"
+name_of Wednesday = codes "Wednesday"
+name_of Thursday = codes "Thursday"
+name_of Friday = codes "Friday"
+name_of Saturday = codes "Saturday"
+name_of Sunday = codes "Sunday"

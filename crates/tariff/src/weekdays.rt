@@ -1,7 +1,9 @@
 // Weekdays, counted from the first day of 2020.
-ghost use Rattle.std.specs.Prelude.{◌≡◌, ◌+◌, ◌*◌, ◌≤◌, true};
+ghost use Rattle.std.specs.Prelude.{◌≡◌, ◌+◌, ◌*◌, ◌≤◌, true, Some};
 ghost use Rattle.tariff.specs.Dates.{exists};
-ghost use Rattle.tariff.specs.Weekdays.{weekday_after, weekdays_after, days_of_years, days_of_months, weekday_of};
+ghost use Rattle.tariff.specs.Weekdays.{weekday_after, weekdays_after, days_of_years, days_of_months, weekday_of, name_of};
+
+use std::fmt;
 
 use crate::dates::{Date, days_in_month, days_in_year};
 
@@ -42,6 +44,22 @@ impl Weekday {
             weekday = weekday.next();
         }
         weekday
+    }
+}
+
+impl fmt::Display for Weekday {
+    ghost output = { λ weekday. Some (name_of weekday) };
+
+    fn fmt<W: fmt::Write>(&self, f: &mut fmt::Formatter<W>) -> fmt::Result {
+        f.write_str(match self {
+            Weekday::Monday => "Monday",
+            Weekday::Tuesday => "Tuesday",
+            Weekday::Wednesday => "Wednesday",
+            Weekday::Thursday => "Thursday",
+            Weekday::Friday => "Friday",
+            Weekday::Saturday => "Saturday",
+            Weekday::Sunday => "Sunday",
+        })
     }
 }
 

@@ -1,0 +1,71 @@
+// The hours of a day, a letter each.
+ghost use Rattle.std.specs.Prelude.{◌≡◌, ◌+◌, ◌*◌, ◌<◌, Some};
+ghost use Rattle.tariff.specs.BillingPeriods.{period_at};
+ghost use Rattle.day_list.specs.Listing.{letter_of, letter_at, hours_text};
+
+use std::fmt;
+use tariff::{BillingPeriod, Period};
+
+fn letter_of(period: Period) -> &'static str
+    ensures { result.now ≡ letter_of period }
+{
+    match period {
+        Period::Peak => "P",
+        Period::HalfPeak => "H",
+        Period::SaturdayHalfPeak => "S",
+        Period::OffPeak => "-",
+    }
+}
+
+// The letter of a quarter's period, where the billing period has the quarter.
+#[derive(Clone, Copy)]
+struct Letter(Option<Period>);
+
+impl fmt::Display for Letter {
+    ghost output = { λ it. Some (letter_at it.0) };
+
+    fn fmt<W: fmt::Write>(&self, f: &mut fmt::Formatter<W>) -> fmt::Result {
+        match self.0 {
+            Some(period) => f.write_str(letter_of(period)),
+            None => Ok(()),
+        }
+    }
+}
+
+/// The hours of a day of a billing period, the days numbered from 0.
+#[derive(Clone, Copy)]
+pub(crate) struct Hours<'a> {
+    pub period: &'a BillingPeriod,
+    pub day: u32,
+    ghost few: { day < 31 },
+}
+
+impl Hours<'_> {
+    // The first quarter of an hour, four quarters to the hour and 24 hours to the day.
+    fn first_quarter(&self, hour: u32) -> u32
+        requires { hour < 24 }
+        ensures { result ≡ 96 * self.now.day + 4 * hour }
+    {
+        4 * (24 * self.day + hour)
+    }
+
+    // The letter of an hour, by its first quarter.
+    fn letter_at(&self, hour: u32) -> Letter
+        requires { hour < 24 }
+        ensures { result.0 ≡ period_at self.now.period.now.terms (96 * self.now.day + 4 * hour) }
+    {
+        Letter(self.period.period_of(self.first_quarter(hour)))
+    }
+}
+
+impl fmt::Display for Hours<'_> {
+    ghost output = { λ hours. Some (hours_text hours.period.now.terms hours.day) };
+
+    fn fmt<W: fmt::Write>(&self, f: &mut fmt::Formatter<W>) -> fmt::Result {
+        for hour in 0..24 {
+            let letter = self.letter_at(hour);
+            write!(f, "{letter}")?;
+        }
+        Ok(())
+    }
+}
