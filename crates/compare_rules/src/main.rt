@@ -1,31 +1,40 @@
 // Reads lines of an amount and its weights from standard input, and prints what each sharing rule gives for each.
 #![tactic(auto)]
 
-use anyhow::anyhow;
+ghost use Rattle.comparison.specs.Report.{report_text};
+
+use answering::{Answer, answer_all};
 use comparison::report_on;
-use std::io::Read;
+use std::alloc::{AllocError, Global};
+use std::io;
 
 const REFUSALS: &str =
     "refusals: 14 over 16 weights; 15 amount or sum of weights above 4000000000; 16 an amount above 0 and no weight above 0; \
     18 no such line (an amount and its weights, without leading zeros, at most 4294967295, one blank between two)";
 
-fn run(rt: &HostRuntime) -> anyhow::Result<()> {
-    let mut input = Vec::new(rt.alloc());
-    rt.stdin().read_to_end(&mut input)?;
-    let Ok(report) = report_on(rt.alloc(), input.as_slice()) else {
-        return Err(anyhow!("out of memory"));
-    };
-    let refused = report.as_str().contains(" refusal ");
-    rt.print(report)?;
-    if refused {
+// The comparison of the two sharing rules.
+struct Comparison;
+
+impl Answer for Comparison {
+    ghost text = { λ _ input. report_text input };
+
+    fn answer(&self, heap: Global, input: &[u8]) -> Result<String, AllocError> {
+        report_on(heap, input)
+    }
+}
+
+fn main(rt: HostRuntime) -> anyhow::Result<()> {
+    let report = answer_all(
+        rt.alloc(),
+        &Comparison,
+        &mut rt.stdin(),
+        &mut io::writer(&rt),
+    )?;
+    if report.as_str().contains(" refusal ") {
         // The report is written whether or not this can be read.
         let _ = rt.eprintln(REFUSALS);
     }
     Ok(())
-}
-
-fn main(rt: HostRuntime) -> anyhow::Result<()> {
-    run(&rt)
 }
 
 #[cfg(test)]

@@ -1,32 +1,36 @@
 // Reads the numbers of a billing period from standard input, and prints its days with their hours.
 #![tactic(auto)]
 
-use anyhow::anyhow;
+ghost use Rattle.day_list.specs.Listing.{list_text};
+
+use answering::{Answer, answer_all};
 use day_list::list_of;
-use std::io::Read;
+use std::alloc::{AllocError, Global};
+use std::io;
 
 const REFUSALS: &str =
     "refusals: 7 no such billing period (the first day must exist and lie in 2020 to 2099, days 1 to 31, calendar 2 or 3 stages, \
     no bit of the map past the days); 18 no such line (year month day days calendar map, without leading zeros, at most 4294967295, \
     one blank between two)";
 
-fn run(rt: &HostRuntime) -> anyhow::Result<()> {
-    let mut input = Vec::new(rt.alloc());
-    rt.stdin().read_to_end(&mut input)?;
-    let Ok(list) = list_of(rt.alloc(), input.as_slice()) else {
-        return Err(anyhow!("out of memory"));
-    };
-    let refused = list.as_str().starts_with("refusal ");
-    rt.print(list)?;
-    if refused {
+// The list of days.
+struct DayList;
+
+impl Answer for DayList {
+    ghost text = { λ _ input. list_text input };
+
+    fn answer(&self, heap: Global, input: &[u8]) -> Result<String, AllocError> {
+        list_of(heap, input)
+    }
+}
+
+fn main(rt: HostRuntime) -> anyhow::Result<()> {
+    let list = answer_all(rt.alloc(), &DayList, &mut rt.stdin(), &mut io::writer(&rt))?;
+    if list.as_str().starts_with("refusal ") {
         // The list is written whether or not this can be read.
         let _ = rt.eprintln(REFUSALS);
     }
     Ok(())
-}
-
-fn main(rt: HostRuntime) -> anyhow::Result<()> {
-    run(&rt)
 }
 
 #[cfg(test)]
