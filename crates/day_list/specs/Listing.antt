@@ -3,7 +3,7 @@ use Rattle.std.specs.Prelude.{ℕ, ◌+◌, ◌*◌, List, [], ◌++◌, Some, N
 use Rattle.std.specs.List.{range_with_len, flat_map}
 use Rattle.refusals.specs.declared.Refusal.{Refusal}
 use Rattle.refusals.specs.declared.Refusal.TheVariants.{NoSuchLine}
-use Rattle.refusals.specs.Numbers.{number_of}
+use Rattle.refusals.specs.Numbers.{printed}
 use Rattle.tariff.specs.declared.counts.QuartersByPeriod.{QuartersByPeriod}
 use Rattle.tariff.specs.declared.hours.Period.{Period}
 use Rattle.tariff.specs.declared.hours.Period.TheVariants.{Peak, HalfPeak, SaturdayHalfPeak, OffPeak}
@@ -56,7 +56,7 @@ abbrev pub end_text : Terms → List ℕ
 end_text terms = codes "days " ++ (decimal terms.days ++ (codes " quarters " ++ (decimal (quarters_of terms) ++ codes "\n")))
 
 abbrev pub refusal_text : Refusal → List ℕ
-refusal_text refusal = codes "refusal " ++ (decimal (number_of refusal) ++ codes "\n")
+refusal_text refusal = printed refusal ++ codes "\n"
 
 -- The days of a billing period, or why it cannot be.
 abbrev pub answer_text : Result Terms Refusal → List ℕ

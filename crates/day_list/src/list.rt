@@ -1,23 +1,12 @@
 // The list, from the first byte in to the last byte out.
 ghost use Rattle.std.specs.Prelude.{◌≡◌, IfOk, string_bytes};
 ghost use Rattle.day_list.specs.Laws.{AllLettersTell};
-ghost use Rattle.day_list.specs.Listing.{answer_text, list_text};
-ghost use Rattle.day_list.specs.Requests.{terms_asked};
+ghost use Rattle.day_list.specs.Listing.{list_text};
 
 use crate::days::DayList;
 use crate::request::{Request, request_in};
 use refusals::Refusal;
 use std::alloc::{AllocError, Global};
-
-// The days that are asked for, or why they cannot be listed.
-fn answer(heap: Global, request: Request) -> Result<String, AllocError>
-    ensures { IfOk result (λ text. string_bytes text ≡ answer_text (terms_asked request)) }
-{
-    match request.period() {
-        Ok(period) => DayList::of(period).to_string(heap),
-        Err(refusal) => format!(in heap; "{refusal}\n"),
-    }
-}
 
 // Holds what the letters of every list tell.
 fn letters_tell()
@@ -30,11 +19,9 @@ pub fn list_of(heap: Global, input: &[u8]) -> Result<String, AllocError>
     ensures letters { AllLettersTell }
 {
     letters_tell();
-    match request_in(heap, input)? {
-        Some(request) => answer(heap, request),
-        None => {
-            let refusal = Refusal::NoSuchLine;
-            format!(in heap; "{refusal}\n")
-        }
+    let request = request_in(heap, input)?.ok_or(Refusal::NoSuchLine);
+    match request.and_then(Request::period) {
+        Ok(period) => DayList::of(period).to_string(heap),
+        Err(refusal) => format!(in heap; "{refusal}\n"),
     }
 }
