@@ -17,7 +17,7 @@ FIRST_LINE_ONLY = re.compile(r"\bfn (\w+)")
 
 def sources(root):
     for folder, dirs, files in os.walk(os.path.join(root, "crates")):
-        dirs[:] = sorted(d for d in dirs if d not in ("target", "must-fail", "specs", "proofs"))
+        dirs[:] = sorted(d for d in dirs if d not in ("target", "out", "must-fail", "specs", "proofs"))
         for name in sorted(files):
             path = os.path.join(folder, name)
             # The crate of figures has tests alone, but for its theorem.
@@ -119,7 +119,7 @@ def travellers(root):
 
 def proofs(root):
     for folder, dirs, files in os.walk(os.path.join(root, "crates")):
-        dirs[:] = sorted(d for d in dirs if d != "target")
+        dirs[:] = sorted(d for d in dirs if d not in ("target", "out"))
         for name in sorted(files):
             if "/proofs" in folder and name.endswith(".antt") and name != "Lib.antt":
                 yield os.path.relpath(os.path.join(folder, name), root)
@@ -130,7 +130,7 @@ POINTS = [
     ("2 twins by the shape of the body", twins),
     ("3 loops", lambda r: by_line(r, r"^\s*(for|while|loop)\b")),
     ("3 of these by an index or a cursor", lambda r: by_line(r, r"^\s*for \(\w+, \w+\) in .*enumerate\(\)|^\s*for \w+ in .*\.\.|^\s*while ")),
-    ("4 conversions, printing and zeros by hand", lambda r: by_line(r, r"impl (From|TryFrom|fmt::Display|Display|PartialEq|Ord|Default|Clone)\b|fn (name|letter|word|number|with_stages|of|empty|no_\w+|write_\w+)[(<]")),
+    ("4 conversions, printing and zeros by hand", lambda r: by_line(r, r"impl (From|PartialEq|Eq|PartialOrd|Ord|Default|Clone|Copy|Hash)\b.* for |fn (name|letter|word|number|with_stages|of|empty|no_\w+)[(<]|out: &mut String")),
     ("5 facts in three contracts or more", repeated_facts),
     ("5 parameters that travel together", travellers),
     ("6 fixed buffers and places by index", lambda r: by_line(r, r"= \[\w+; |^\s*(\w+)\[\w+\] |\[\w+\.\.|\w+\[\w+( [*+] \w+)*\][,);]")),

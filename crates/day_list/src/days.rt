@@ -1,24 +1,17 @@
 // The days of a billing period, one line each.
-ghost use Rattle.std.specs.Prelude.{◌≡◌, ◌<◌, ◌≤◌, Some, Ok};
+ghost use Rattle.std.specs.Prelude.{◌≡◌, ◌≤◌, Some, Ok};
 ghost use Rattle.day_list.specs.Listing.{day_text, answer_text};
 
-use crate::hours::Hours;
+use crate::hours::{Hours, NumberedDay};
 use std::fmt;
 use tariff::{BillingPeriod, Date, QuartersByPeriod};
 
-// The line of a day, the days numbered from 0. It is empty where the billing period has no such day.
-#[derive(Clone, Copy)]
-struct DayLine<'a> {
-    period: &'a BillingPeriod,
-    number: u32,
-    ghost few: { number < 31 },
-}
-
-impl fmt::Display for DayLine<'_> {
-    ghost output = { λ line. Some (day_text line.period.now.terms line.number) };
+// The line of a day. It is empty where the billing period has no such day.
+impl fmt::Display for NumberedDay<'_> {
+    ghost output = { λ day. Some (day_text day.period.now.terms day.number) };
 
     fn fmt<W: fmt::Write>(&self, f: &mut fmt::Formatter<W>) -> fmt::Result {
-        let DayLine { period, number } = *self;
+        let NumberedDay { period, number } = *self;
         let (Some(day), Some(counts)) = (period.day(number), period.quarters_by_period(number))
         else {
             return Ok(());
@@ -29,10 +22,7 @@ impl fmt::Display for DayLine<'_> {
             day: day_of_month,
         } = day.date;
         let weekday = day.weekday;
-        let hours = Hours {
-            period,
-            day: number,
-        };
+        let hours = Hours(*self);
         let QuartersByPeriod {
             peak,
             half_peak,
@@ -48,34 +38,26 @@ impl fmt::Display for DayLine<'_> {
 
 /// The days of a billing period, and how many days and quarters there are.
 #[derive(Clone, Copy)]
-pub(crate) struct DayList {
-    period: BillingPeriod,
-}
+pub(crate) struct DayList(pub BillingPeriod);
 
 impl DayList {
-    pub(crate) fn of(period: BillingPeriod) -> DayList
-        ensures { result.period ≡ period }
-    {
-        DayList { period }
-    }
-
     fn days(&self) -> u32
-        ensures is { result ≡ self.now.period.terms.days }
+        ensures is { result ≡ self.now.0.terms.days }
         ensures few { result ≤ 31 }
     {
-        self.period.quarters() / 96
+        self.0.quarters() / 96
     }
 }
 
 impl fmt::Display for DayList {
-    ghost output = { λ list. Some (answer_text (Ok list.period.terms)) };
+    ghost output = { λ list. Some (answer_text (Ok list.0.terms)) };
 
     fn fmt<W: fmt::Write>(&self, f: &mut fmt::Formatter<W>) -> fmt::Result {
-        let period = &self.period;
+        let period = &self.0;
         let days = self.days();
         for number in 0..days {
-            let line = DayLine { period, number };
-            write!(f, "{line}")?;
+            let day = NumberedDay { period, number };
+            write!(f, "{day}")?;
         }
         let quarters = period.quarters();
         write!(f, "days {days} quarters {quarters}\n")

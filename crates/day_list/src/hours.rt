@@ -32,38 +32,42 @@ impl fmt::Display for Letter {
     }
 }
 
-/// The hours of a day of a billing period, the days numbered from 0.
+/// A day of a billing period by its number from 0. The billing period need not have it.
 #[derive(Clone, Copy)]
-pub(crate) struct Hours<'a> {
+pub(crate) struct NumberedDay<'a> {
     pub period: &'a BillingPeriod,
-    pub day: u32,
-    ghost few: { day < 31 },
+    pub number: u32,
+    ghost few: { number < 31 },
 }
 
-impl Hours<'_> {
+impl NumberedDay<'_> {
     // The first quarter of an hour, four quarters to the hour and 24 hours to the day.
     fn first_quarter(&self, hour: u32) -> u32
         requires { hour < 24 }
-        ensures { result ≡ 96 * self.now.day + 4 * hour }
+        ensures { result ≡ 96 * self.now.number + 4 * hour }
     {
-        4 * (24 * self.day + hour)
+        4 * (24 * self.number + hour)
     }
 
     // The letter of an hour, by its first quarter.
     fn letter_at(&self, hour: u32) -> Letter
         requires { hour < 24 }
-        ensures { result.0 ≡ period_at self.now.period.now.terms (96 * self.now.day + 4 * hour) }
+        ensures { result.0 ≡ period_at self.now.period.now.terms (96 * self.now.number + 4 * hour) }
     {
         Letter(self.period.period_of(self.first_quarter(hour)))
     }
 }
 
+/// The letters of a day's 24 hours.
+#[derive(Clone, Copy)]
+pub(crate) struct Hours<'a>(pub NumberedDay<'a>);
+
 impl fmt::Display for Hours<'_> {
-    ghost output = { λ hours. Some (hours_text hours.period.now.terms hours.day) };
+    ghost output = { λ hours. Some (hours_text hours.0.period.now.terms hours.0.number) };
 
     fn fmt<W: fmt::Write>(&self, f: &mut fmt::Formatter<W>) -> fmt::Result {
         for hour in 0..24 {
-            let letter = self.letter_at(hour);
+            let letter = self.0.letter_at(hour);
             write!(f, "{letter}")?;
         }
         Ok(())

@@ -21,7 +21,7 @@ pub fn list_of(heap: Global, input: &[u8]) -> Result<String, AllocError>
     letters_tell();
     let request = request_in(heap, input)?.ok_or(Refusal::NoSuchLine);
     match request.and_then(Request::period) {
-        Ok(period) => DayList::of(period).to_string(heap),
+        Ok(period) => DayList(period).to_string(heap),
         Err(refusal) => format!(in heap; "{refusal}\n"),
     }
 }

@@ -5,4 +5,4 @@ use Rattle.day_list.proofs.days.DayListDisplay.fmt.Given as goal
 
 abbrev pub invariant-loop-number : goal.invariant-loop-number
 invariant-loop-number g l =
-    IsPlainFormatter l.initial.f → HasWritten g.W.Write.write_str_gives l.initial.f (flat_map (day_text l.self.period.terms) (range_with_len 0 l.number)) l.f
+    IsPlainFormatter l.initial.f → HasWritten g.W.Write.write_str_gives l.initial.f (flat_map (day_text l.self.0.terms) (range_with_len 0 l.number)) l.f

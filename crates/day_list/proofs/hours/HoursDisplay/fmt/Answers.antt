@@ -8,11 +8,11 @@ use Rattle.day_list.proofs.hours.HoursDisplay.fmt.Goals as goal
 
 pub loop-hour-preserved : goal.loop-hour-preserved
 loop-hour-preserved g c = λ plain.
-    let more = one_more (λ hour. letter_at (period_at c.args.self.now.period.now.terms (96 * c.args.self.now.day + 4 * hour))) c.loop-hour.hour in
+    let more = one_more (λ hour. letter_at (period_at c.args.self.now.0.period.now.terms (96 * c.args.self.now.0.number + 4 * hour))) c.loop-hour.hour in
     has_written_of_eq _ _ _ _ _ more (has_written_append _ _ _ _ _ _ (c.loop-hour.invariant plain) (search rules))
 
 pub returns-clause-writes : goal.returns-clause-writes
 unfolding hours_text
 returns-clause-writes g c = λ plain _.
     let all : c.loop-hour.hour ≡ 24 = omega arith in
-    has_written_of_eq _ _ _ _ _ (ap (λ n. flat_map (λ hour. letter_at (period_at c.args.self.now.period.now.terms (96 * c.args.self.now.day + 4 * hour))) (range_with_len 0 n)) all) (c.loop-hour.invariant plain)
+    has_written_of_eq _ _ _ _ _ (ap (λ n. flat_map (λ hour. letter_at (period_at c.args.self.now.0.period.now.terms (96 * c.args.self.now.0.number + 4 * hour))) (range_with_len 0 n)) all) (c.loop-hour.invariant plain)
