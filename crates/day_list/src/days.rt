@@ -55,6 +55,7 @@ impl fmt::Display for DayList {
     fn fmt<W: fmt::Write>(&self, f: &mut fmt::Formatter<W>) -> fmt::Result {
         let period = &self.0;
         let days = self.days();
+        // The days are found by their numbers and are no list, so a range is their plain form.
         for number in 0..days {
             let day = NumberedDay { period, number };
             write!(f, "{day}")?;

@@ -66,6 +66,7 @@ impl fmt::Display for Hours<'_> {
     ghost output = { λ hours. Some (hours_text hours.0.period.now.terms hours.0.number) };
 
     fn fmt<W: fmt::Write>(&self, f: &mut fmt::Formatter<W>) -> fmt::Result {
+        // The hours are numbers and no list, so a range is their plain form.
         for hour in 0..24 {
             let letter = self.0.letter_at(hour);
             write!(f, "{letter}")?;

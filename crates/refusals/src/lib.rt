@@ -30,6 +30,7 @@ pub enum Refusal {
 
 impl Refusal {
     /// The number that is printed for the reason. Of several reasons the one with the smallest number decides.
+    // By cases, as the definition has them: discriminants and a cast would say no more.
     pub fn number(self) -> u8
         ensures { result ≡ number_of self }
     {
