@@ -1,9 +1,10 @@
 -- The number that a text writes in decimal digits. Assumes nothing.
 use Rattle.std.specs.Prelude.{ℕ, ◌+◌, ◌-◌, ◌*◌, Bool, true, false, cond, not, ◌&&◌, List, [], ◌∷◌, Some, None, Option, ◌==◌, nat_le}
+use Rattle.std.specs.Option.{option_and_then}
 
+-- the library's `option_and_then`, read from left to right
 abbrev pub and_then : {X Y : Type 0} → Option X → (X → Option Y) → Option Y
-and_then None f = None
-and_then (Some x) f = f x
+and_then o f = option_and_then f o
 
 -- the value with one more digit at its end; none at a byte that is no digit, or past the largest value
 abbrev pub with_digit : ℕ → ℕ → Option ℕ

@@ -1,9 +1,9 @@
 -- The numbers of a line, one blank between two. Assumes nothing.
-use Rattle.std.specs.Prelude.{◌≡◌, ℕ, ◌^◌, ◌<◌, List, [], ◌∷◌, ◌++◌, length, Some, decimal, Option}
+use Rattle.std.specs.Prelude.{◌≡◌, ℕ, ◌^◌, ◌<◌, List, [], ◌∷◌, map, length, Some, decimal, Option}
 use Rattle.lines.specs.Cuts.{pieces}
 use Rattle.lines.specs.Decimals.{and_then, number_in}
 use Rattle.std.specs.Option.{option_map}
-use Rattle.std.specs.List.{AllByRecursion}
+use Rattle.std.specs.List.{AllByRecursion, join_with_byte}
 
 -- the number in each text, unless one is no number
 abbrev pub each_number : List (List ℕ) → Option (List ℕ)
@@ -15,9 +15,7 @@ numbers_in line = each_number (pieces 32 line)
 
 -- the numbers as `{n}` writes them, one blank between two
 abbrev pub written : List ℕ → List ℕ
-written [] = []
-written (n ∷ []) = decimal n
-written (n ∷ m ∷ ns) = decimal n ++ 32 ∷ written (m ∷ ns)
+written ns = join_with_byte 32 (map decimal ns)
 
 -- line is how these numbers are written, which are some, each below 2 ^ 32
 abbrev pub Writes : List ℕ → List ℕ → Type 0

@@ -1,8 +1,8 @@
 // Text cut at a mark, and the decimal numbers of a line.
 #![tactic(auto)]
 
-ghost use Rattle.std.specs.Prelude.{◌≡◌, ℕ, ◌^◌, ◌<◌, List, length, IfSome, IfOk, Some, vec_items, decimal as spelled};
-ghost use Rattle.lines.specs.Cuts.{before, after, CutAt};
+ghost use Rattle.std.specs.Prelude.{◌≡◌, ℕ, ◌^◌, ◌<◌, List, length, IfSome, IfOk, Some, vec_items, decimal as spelled, position, ◌==◌};
+ghost use Rattle.lines.specs.Cuts.{before, after};
 ghost use Rattle.lines.specs.Decimals.{number_in, plain_start, digits_on, with_digit};
 ghost use Rattle.lines.specs.Numbers.{numbers_in, Writes};
 ghost use Rattle.std.specs.Option.{option_map};
@@ -11,28 +11,20 @@ use std::alloc::{AllocError, Global};
 
 // Where the first `mark` stands.
 fn position(text: &[u8], mark: u8) -> Option<usize>
-    ensures { CutAt mark text.now result }
+    ensures { result ≡ position (λ b. b == mark) text.now }
 {
-    for (i, byte) in text.iter().enumerate() {
-        if *byte == mark {
-            return Some(i);
-        }
-    }
-    None
+    text.iter().position(|byte| *byte == mark)
 }
 
 /// The text before the first `mark`, and the text after it where there is one.
+#[tactic(auto, using(crate::proofs::Cuts::cuts))]
 pub fn cut(text: &[u8], mark: u8) -> (&[u8], Option<&[u8]>)
     ensures front { result.0.now ≡ before mark text.now }
     ensures rest { option_map (λ x. x.now) result.1 ≡ after mark text.now }
     ensures shorter { IfSome result.1 (λ left. length left.now < length text.now) }
 {
     match position(text, mark) {
-        Some(i) => {
-            let (front, _) = text.split_at(i);
-            let (_, rest) = text.split_at(i + 1);
-            (front, Some(rest))
-        }
+        Some(i) => (&text[..i], Some(&text[i + 1..])),
         None => (text, None),
     }
 }
@@ -41,21 +33,15 @@ pub fn cut(text: &[u8], mark: u8) -> (&[u8], Option<&[u8]>)
 fn starts_plain(text: &[u8]) -> bool
     ensures { result ≡ plain_start text.now }
 {
-    match text {
-        [] => false,
-        [_] => true,
-        [first, ..] => *first != b'0',
-    }
+    !matches!(text, [] | [b'0', _, ..])
 }
 
 // `value` with one more digit at its end.
 fn with_digit(value: u32, byte: u8) -> Option<u32>
     ensures { result ≡ with_digit value byte }
 {
-    match byte {
-        b'0'..=b'9' => value.checked_mul(10)?.checked_add(u32::from(byte - b'0')),
-        _ => None,
-    }
+    let digit = char::from(byte).to_digit(10)?;
+    value.checked_mul(10)?.checked_add(digit)
 }
 
 // The number that the digits of `text` write, 0 where it has none.
@@ -64,10 +50,7 @@ fn digits(text: &[u8]) -> Option<u32>
 {
     let mut value = 0;
     for byte in text {
-        match with_digit(value, *byte) {
-            Some(next) => value = next,
-            None => return None,
-        }
+        value = with_digit(value, *byte)?;
     }
     Some(value)
 }
@@ -85,14 +68,11 @@ pub fn decimal(text: &[u8]) -> Option<u32>
     }
 }
 
-// The number that stands before the first blank, and the text after that.
-fn first_number(text: &[u8]) -> (Option<u32>, Option<&[u8]>)
-    ensures number { result.0 ≡ number_in (before 32 text.now) }
-    ensures rest { option_map (λ x. x.now) result.1 ≡ after 32 text.now }
-    ensures shorter { IfSome result.1 (λ left. length left.now < length text.now) }
+// What stands between two numbers of a line.
+fn is_blank(byte: &u8) -> bool
+    ensures { result ≡ byte.now == 32 }
 {
-    let (piece, rest) = cut(text, b' ');
-    (decimal(piece), rest)
+    *byte == b' '
 }
 
 /// The numbers of a line, one blank between two; None where a piece is no number.
@@ -102,14 +82,11 @@ pub fn numbers(heap: Global, line: &[u8]) -> Result<Option<Vec<u32>>, AllocError
     ensures writes { IfOk result (λ found. (ns : List ℕ) → (option_map vec_items found ≡ Some ns → Writes ns line.now) × (Writes ns line.now → option_map vec_items found ≡ Some ns)) }
 {
     let mut found = Vec::new(heap);
-    let mut left = Some(line);
-    while let Some(text) = left {
-        let (number, rest) = first_number(text);
-        let Some(n) = number else {
+    for piece in line.split(is_blank) {
+        let Some(number) = decimal(piece) else {
             return Ok(None);
         };
-        found.push(n)?;
-        left = rest;
+        found.push(number)?;
     }
     Ok(Some(found))
 }

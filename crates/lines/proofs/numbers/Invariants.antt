@@ -1,11 +1,13 @@
-use Rattle.std.proofs.Common.{◌≡◌, vec_items}
+use Rattle.std.proofs.Common.{◌≡◌, false, length, drop, vec_items}
+use Rattle.lines.specs.Cuts.{pieces}
 use Rattle.lines.specs.Numbers.{numbers_in}
-use Rattle.lines.proofs.NumberLines.{numbers_on, left_over}
-use Rattle.std.specs.Option.{option_map}
+use Rattle.lines.proofs.NumberLines.{numbers_on}
+use Rattle.std.specs.Slice.Iter.{split_rest, split_done}
 use Rattle.lines.proofs.numbers.Given as goal
 
-abbrev pub invariant-loop-left : goal.invariant-loop-left
-invariant-loop-left l = numbers_on (vec_items l.found) (option_map (λ x. x.now) l.left) ≡ numbers_in l.line
-
-abbrev pub decreases-loop-left : goal.decreases-loop-left
-decreases-loop-left l = left_over (option_map (λ x. x.now) l.left)
+abbrev pub invariant-loop-piece : goal.invariant-loop-piece
+invariant-loop-piece l = record {
+  whole_line : split_rest l.initial.piece-iterator ≡ l.line;
+  from_start : split_done l.initial.piece-iterator ≡ false;
+  so_far : numbers_on (vec_items l.found) (drop (length l.yielded) (pieces 32 l.line)) ≡ numbers_in l.line;
+}
