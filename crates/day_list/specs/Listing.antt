@@ -30,23 +30,18 @@ letter_at (Some period) = letter_of period
 unfoldable pub hours_text : Terms → ℕ → List ℕ
 hours_text terms number = flat_map (λ hour. letter_at (period_at terms (96 * number + 4 * hour))) (range_with_len 0 24)
 
--- A day's number, date and weekday.
-abbrev pub heading_text : ℕ → Day → List ℕ
-heading_text number day =
+-- The line of a day: its number, date and weekday, its hours, and how many of its quarters are in each period.
+abbrev pub day_line : Terms → ℕ → Day → QuartersByPeriod → List ℕ
+day_line terms number day n =
     decimal number ++ (codes " " ++ (decimal day.date.year ++ (codes " " ++ (decimal day.date.month ++ (codes " "
-    ++ (decimal day.date.day ++ (codes " " ++ (name_of day.weekday ++ codes " "))))))))
+    ++ (decimal day.date.day ++ (codes " " ++ (name_of day.weekday ++ (codes " " ++ (hours_text terms number ++ (codes " "
+    ++ (decimal n.peak ++ (codes " " ++ (decimal n.half_peak ++ (codes " " ++ (decimal n.saturday_half_peak ++ (codes " "
+    ++ (decimal n.off_peak ++ codes "\n"))))))))))))))))))
 
--- How many quarters of a day are in each period.
-abbrev pub counts_text : QuartersByPeriod → List ℕ
-counts_text n =
-    codes " " ++ (decimal n.peak ++ (codes " " ++ (decimal n.half_peak ++ (codes " "
-    ++ (decimal n.saturday_half_peak ++ (codes " " ++ (decimal n.off_peak ++ codes "\n")))))))
-
--- The line of a day, where the billing period has the day.
+-- There is no line where the billing period has no such day.
 abbrev pub line_text : Terms → ℕ → Option Day → List ℕ
 line_text terms number None = []
-line_text terms number (Some day) =
-    heading_text number day ++ (hours_text terms number ++ counts_text (counted (period_on terms.calendar day) 96))
+line_text terms number (Some day) = day_line terms number day (counted (period_on terms.calendar day) 96)
 
 abbrev pub day_text : Terms → ℕ → List ℕ
 day_text terms number = line_text terms number (day_at terms number)

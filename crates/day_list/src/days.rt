@@ -1,10 +1,39 @@
 // The days of a billing period, one line each.
 ghost use Rattle.std.specs.Prelude.{◌≡◌, ◌≤◌, Some, Ok};
-ghost use Rattle.day_list.specs.Listing.{day_text, answer_text};
+ghost use Rattle.day_list.specs.Listing.{day_line, day_text, answer_text};
 
 use crate::hours::{Hours, NumberedDay};
 use std::fmt;
-use tariff::{BillingPeriod, Date, QuartersByPeriod};
+use tariff::{BillingPeriod, Date, Day, QuartersByPeriod};
+
+// A day that the billing period has, and how many of its quarters are in each period.
+#[derive(Clone, Copy)]
+struct DayLine<'a> {
+    numbered: NumberedDay<'a>,
+    day: Day,
+    counts: QuartersByPeriod,
+}
+
+impl fmt::Display for DayLine<'_> {
+    ghost output = { λ line. Some (day_line line.numbered.period.now.terms line.numbered.number line.day line.counts) };
+
+    fn fmt<W: fmt::Write>(&self, f: &mut fmt::Formatter<W>) -> fmt::Result {
+        let number = self.numbered.number;
+        let Date { year, month, day } = self.day.date;
+        let weekday = self.day.weekday;
+        let hours = Hours(self.numbered);
+        let QuartersByPeriod {
+            peak,
+            half_peak,
+            saturday_half_peak,
+            off_peak,
+        } = self.counts;
+        write!(
+            f,
+            "{number} {year} {month} {day} {weekday} {hours} {peak} {half_peak} {saturday_half_peak} {off_peak}\n"
+        )
+    }
+}
 
 // The line of a day. It is empty where the billing period has no such day.
 impl fmt::Display for NumberedDay<'_> {
@@ -16,23 +45,12 @@ impl fmt::Display for NumberedDay<'_> {
         else {
             return Ok(());
         };
-        let Date {
-            year,
-            month,
-            day: day_of_month,
-        } = day.date;
-        let weekday = day.weekday;
-        let hours = Hours(*self);
-        let QuartersByPeriod {
-            peak,
-            half_peak,
-            saturday_half_peak,
-            off_peak,
-        } = counts;
-        write!(
-            f,
-            "{number} {year} {month} {day_of_month} {weekday} {hours} {peak} {half_peak} {saturday_half_peak} {off_peak}\n"
-        )
+        let line = DayLine {
+            numbered: *self,
+            day,
+            counts,
+        };
+        write!(f, "{line}")
     }
 }
 

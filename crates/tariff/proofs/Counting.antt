@@ -1,5 +1,5 @@
 -- Counting a day's quarters by period.
-use Rattle.std.proofs.Common.{◌≡◌, ℕ, ◌+◌, refl, ap, add-one, arith}
+use Rattle.std.proofs.Common.{◌≡◌, ℕ, ◌+◌, refl, ap, ◌∙◌, add-one, arith}
 use Rattle.tariff.specs.declared.hours.Calendar.{Calendar}
 use Rattle.tariff.specs.declared.hours.Calendar.TheVariants.{TwoStage, ThreeStage}
 use Rattle.tariff.specs.declared.hours.Season.{Season}
@@ -9,6 +9,8 @@ use Rattle.tariff.specs.declared.hours.DayKind.TheVariants.{WorkingDay, HalfPeak
 use Rattle.tariff.specs.declared.hours.Period.{Period}
 use Rattle.tariff.specs.declared.hours.Period.TheVariants.{Peak, HalfPeak, SaturdayHalfPeak, OffPeak}
 use Rattle.tariff.specs.declared.counts.QuartersByPeriod.{QuartersByPeriod}
+use Rattle.tariff.specs.declared.terms.Day.{Day}
+use Rattle.tariff.specs.BillingPeriods.{period_on}
 use Rattle.tariff.specs.Counts.{numbers, one_more, counted, together, by_hours}
 use Rattle.tariff.specs.Hours.{period_in_quarter}
 
@@ -40,3 +42,9 @@ a_day_by_hours TwoStage Summer OffPeakDay = refl
 a_day_by_hours TwoStage NonSummer OffPeakDay = refl
 a_day_by_hours ThreeStage Summer OffPeakDay = refl
 a_day_by_hours ThreeStage NonSummer OffPeakDay = refl
+
+pub day_by_hours : (calendar : Calendar) (day : Day) (n : ℕ) → n ≡ 96 → counted (period_on calendar day) n ≡ by_hours calendar day.season day.kind
+day_by_hours calendar day n e = ap (counted (period_on calendar day)) e ∙ a_day_by_hours calendar day.season day.kind
+
+-- What the count of a day rests on.
+pub ruleset counting = (counted_none, counted_more, one_more_together, day_by_hours)

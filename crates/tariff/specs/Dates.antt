@@ -1,5 +1,6 @@
 -- Dates of the Gregorian calendar. Assumes nothing.
-use Rattle.std.specs.Prelude.{ℕ, zero, suc, ◌+◌, ◌%◌, Bool, cond, not, ◌&&◌, ◌||◌, ◌==◌, nat_le, nat_lt}
+use Rattle.std.specs.Prelude.{ℕ, ◌+◌, ◌%◌, Bool, cond, not, ◌&&◌, ◌||◌, ◌==◌, nat_le, nat_lt}
+use Rattle.std.specs.Fn.{iterate}
 use Rattle.tariff.specs.declared.dates.Date.{Date}
 
 -- Whether February has 29 days: every fourth year, of the full hundreds every fourth.
@@ -30,6 +31,5 @@ day_after date =
     (record { year = date.year + 1; month = 1; day = 1 }))
 
 -- The date so many days later.
-unfoldable pub days_after : ℕ → Date → Date
-days_after zero date = date
-days_after (suc n) date = day_after (days_after n date)
+abbrev pub days_after : ℕ → Date → Date
+days_after n date = iterate day_after n date

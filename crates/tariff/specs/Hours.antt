@@ -1,5 +1,7 @@
 -- The tariff's hours: which period an hour of a day is in. Assumes nothing.
-use Rattle.std.specs.Prelude.{ℕ, ◌/◌, Bool, true, false, cond, ◌&&◌, ◌||◌, Some, None, Option, ◌==◌, nat_le, nat_lt}
+use Rattle.std.specs.Prelude.{ℕ, ◌/◌, Bool, true, false, cond, ◌&&◌, ◌||◌, Ok, Err, Result, ◌==◌, nat_le, nat_lt}
+use Rattle.refusals.specs.declared.Refusal.{Refusal}
+use Rattle.refusals.specs.declared.Refusal.TheVariants.{NoSuchBillingPeriod}
 use Rattle.tariff.specs.declared.weekdays.Weekday.{Weekday}
 use Rattle.tariff.specs.declared.weekdays.Weekday.TheVariants.{Monday, Tuesday, Wednesday, Thursday, Friday, Saturday, Sunday}
 use Rattle.tariff.specs.declared.hours.Calendar.{Calendar}
@@ -11,9 +13,9 @@ use Rattle.tariff.specs.declared.hours.DayKind.TheVariants.{WorkingDay, HalfPeak
 use Rattle.tariff.specs.declared.hours.Period.{Period}
 use Rattle.tariff.specs.declared.hours.Period.TheVariants.{Peak, HalfPeak, SaturdayHalfPeak, OffPeak}
 
--- The calendar with so many stages.
-abbrev pub calendar_with : ℕ → Option Calendar
-calendar_with stages = cond (stages == 2) (Some TwoStage) (cond (stages == 3) (Some ThreeStage) None)
+-- The calendar with so many stages, or why there is none.
+abbrev pub calendar_with : ℕ → Result Calendar Refusal
+calendar_with stages = cond (stages == 2) (Ok TwoStage) (cond (stages == 3) (Ok ThreeStage) (Err NoSuchBillingPeriod))
 
 -- Summer is June to September.
 abbrev pub season_in : ℕ → Season

@@ -1,12 +1,13 @@
 // How the quarters of a day fall into the periods.
 ghost use Rattle.std.specs.Prelude.{◌≡◌, ◌<◌};
+ghost use Rattle.tariff.specs.BillingPeriods.{period_on};
 ghost use Rattle.tariff.specs.Counts.{one_more, counted, together, by_hours};
-ghost use Rattle.tariff.specs.Hours.{period_in_quarter};
 
-use crate::hours::{Calendar, DayKind, Period, Season};
+use crate::hours::{Calendar, Period};
+use crate::terms::Day;
 
 /// A number of quarters in each period.
-#[derive(Clone, Copy, PartialEq, Eq, Debug)]
+#[derive(Clone, Copy, PartialEq, Eq, Debug, Default)]
 pub struct QuartersByPeriod {
     pub peak: u32,
     pub half_peak: u32,
@@ -15,37 +16,31 @@ pub struct QuartersByPeriod {
 }
 
 impl QuartersByPeriod {
-    // One quarter more in a period.
-    fn and_one(self, period: Period) -> QuartersByPeriod
-        requires { together self < 96 }
-        ensures { result ≡ one_more period self }
+    // Counts one quarter more in a period.
+    fn add(&mut self, period: Period)
+        requires { together self.old < 96 }
+        ensures { self.new ≡ one_more period self.old }
     {
-        let mut more = self;
         match period {
-            Period::Peak => more.peak += 1,
-            Period::HalfPeak => more.half_peak += 1,
-            Period::SaturdayHalfPeak => more.saturday_half_peak += 1,
-            Period::OffPeak => more.off_peak += 1,
+            Period::Peak => self.peak += 1,
+            Period::HalfPeak => self.half_peak += 1,
+            Period::SaturdayHalfPeak => self.saturday_half_peak += 1,
+            Period::OffPeak => self.off_peak += 1,
         }
-        more
     }
 }
 
 impl Calendar {
     // How many of a day's 96 quarters are in each period.
-    pub(crate) fn quarters_by_period(self, season: Season, kind: DayKind) -> QuartersByPeriod
-        ensures counted { result ≡ counted (period_in_quarter self season kind) 96 }
+    #[tactic(auto, using(crate::proofs::Counting::counting))]
+    pub(crate) fn quarters_by_period(self, day: Day) -> QuartersByPeriod
+        ensures counted { result ≡ counted (period_on self day) 96 }
         ensures all_quarters { together result ≡ 96 }
-        ensures by_hours { result ≡ by_hours self season kind }
+        ensures by_hours { result ≡ by_hours self day.season day.kind }
     {
-        let mut counts = QuartersByPeriod {
-            peak: 0,
-            half_peak: 0,
-            saturday_half_peak: 0,
-            off_peak: 0,
-        };
+        let mut counts = QuartersByPeriod::default();
         for quarter in 0..96 {
-            counts = counts.and_one(self.period_at(season, kind, quarter / 4));
+            counts.add(self.period_on(day, quarter));
         }
         counts
     }

@@ -18,19 +18,18 @@ fn is_leap(year: u32) -> bool
 }
 
 pub(crate) fn days_in_month(year: u32, month: u32) -> u32
-    ensures is { result ≡ days_in_month year month }
-    ensures few { result ≤ 31 }
+    ensures { result ≡ days_in_month year month }
 {
     match month {
-        2 => { if is_leap(year) { 29 } else { 28 } }
+        2 if is_leap(year) => 29,
+        2 => 28,
         4 | 6 | 9 | 11 => 30,
         _ => 31,
     }
 }
 
 pub(crate) fn days_in_year(year: u32) -> u32
-    ensures is { result ≡ days_in_year year }
-    ensures few { result ≤ 366 }
+    ensures { result ≡ days_in_year year }
 {
     if is_leap(year) { 366 } else { 365 }
 }
@@ -40,8 +39,8 @@ impl Date {
     pub(crate) fn exists(self) -> bool
         ensures { result ≡ exists self }
     {
-        let month_exists = self.month >= 1 && self.month <= 12;
-        month_exists && self.day >= 1 && self.day <= days_in_month(self.year, self.month)
+        (1..=12).contains(&self.month)
+            && (1..=days_in_month(self.year, self.month)).contains(&self.day)
     }
 
     // The date a day later.
@@ -50,23 +49,22 @@ impl Date {
         ensures { result ≡ day_after self }
     {
         if self.day < days_in_month(self.year, self.month) {
-            return Date {
-                year: self.year,
-                month: self.month,
+            Date {
                 day: self.day + 1,
-            };
-        }
-        if self.month < 12 {
-            return Date {
-                year: self.year,
+                ..self
+            }
+        } else if self.month < 12 {
+            Date {
                 month: self.month + 1,
                 day: 1,
-            };
-        }
-        Date {
-            year: self.year + 1,
-            month: 1,
-            day: 1,
+                ..self
+            }
+        } else {
+            Date {
+                year: self.year + 1,
+                month: 1,
+                day: 1,
+            }
         }
     }
 
@@ -75,10 +73,6 @@ impl Date {
         requires { self.year + days ≤ 4000 }
         ensures { result ≡ days_after days self }
     {
-        let mut date = self;
-        for _ in 0..days {
-            date = date.next();
-        }
-        date
+        (0..days).fold(self, |date, _| date.next())
     }
 }

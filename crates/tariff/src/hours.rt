@@ -1,25 +1,28 @@
 // The tariff's hours: which period an hour of a day is in.
 ghost use Rattle.std.specs.Prelude.{◌≡◌, ◌<◌};
-ghost use Rattle.tariff.specs.Hours.{calendar_with, season_in, kind_of, from_until, in_two_stages, in_three_stages, period_in, number_of};
+ghost use Rattle.tariff.specs.BillingPeriods.{period_on};
+ghost use Rattle.tariff.specs.Hours.{calendar_with, season_in, kind_of, in_two_stages, in_three_stages, number_of};
 
+use crate::terms::Day;
 use crate::weekdays::Weekday;
+use refusals::Refusal;
 
 /// A tariff's calendar of hours.
-#[derive(Clone, Copy)]
+#[derive(Clone, Copy, PartialEq, Eq, Debug)]
 pub enum Calendar {
     TwoStage,
     ThreeStage,
 }
 
 /// Summer is 1 June to 30 September.
-#[derive(Clone, Copy)]
+#[derive(Clone, Copy, PartialEq, Eq, Debug)]
 pub enum Season {
     Summer,
     NonSummer,
 }
 
 /// What a day counts as in the tariff.
-#[derive(Clone, Copy)]
+#[derive(Clone, Copy, PartialEq, Eq, Debug)]
 pub enum DayKind {
     /// Monday to Friday.
     WorkingDay,
@@ -54,10 +57,8 @@ impl DayKind {
     pub(crate) fn of(weekday: Weekday, named: bool) -> DayKind
         ensures { result ≡ kind_of weekday named }
     {
-        if named {
-            return DayKind::OffPeakDay;
-        }
         match weekday {
+            _ if named => DayKind::OffPeakDay,
             Weekday::Saturday => DayKind::HalfPeakSaturday,
             Weekday::Sunday => DayKind::OffPeakDay,
             _ => DayKind::WorkingDay,
@@ -80,70 +81,58 @@ impl Period {
     }
 }
 
-impl Calendar {
-    // The calendar with so many stages.
-    pub(crate) fn with_stages(stages: u32) -> Option<Calendar>
-        ensures { result ≡ calendar_with stages }
-    {
-        match stages {
-            2 => Some(Calendar::TwoStage),
-            3 => Some(Calendar::ThreeStage),
-            _ => None,
-        }
-    }
+/// The calendar with so many stages.
+impl TryFrom<u32> for Calendar {
+    type Error = Refusal;
 
-    // The period of an hour of a day, the hours numbered from 0.
-    pub(crate) fn period_at(self, season: Season, kind: DayKind, hour: u32) -> Period
-        ensures { result ≡ period_in self season kind hour }
-    {
-        match kind {
-            DayKind::WorkingDay => match self {
-                Calendar::TwoStage => in_two_stages(season, hour, Period::Peak),
-                Calendar::ThreeStage => in_three_stages(season, hour),
-            },
-            DayKind::HalfPeakSaturday => in_two_stages(season, hour, Period::SaturdayHalfPeak),
-            DayKind::OffPeakDay => Period::OffPeak,
+    ghost try_from_gives = { λ stages found. found ≡ calendar_with stages };
+
+    fn try_from(stages: u32) -> Result<Calendar, Refusal> {
+        match stages {
+            2 => Ok(Calendar::TwoStage),
+            3 => Ok(Calendar::ThreeStage),
+            _ => Err(Refusal::NoSuchBillingPeriod),
         }
     }
 }
 
-// Whether the hour lies from the hour `from` until the hour `until`.
-fn lies_in(hour: u32, from: u32, until: u32) -> bool
-    ensures { result ≡ from_until from until hour }
-{
-    from <= hour && hour < until
+impl Calendar {
+    // The period of a quarter of a day, the quarters numbered from 0 in the day.
+    pub(crate) fn period_on(self, day: Day, quarter: u32) -> Period
+        ensures { result ≡ period_on self day quarter }
+    {
+        let hour = quarter / 4;
+        match (day.kind, self) {
+            (DayKind::WorkingDay, Calendar::TwoStage) => {
+                in_two_stages(day.season, hour, Period::Peak)
+            }
+            (DayKind::WorkingDay, Calendar::ThreeStage) => in_three_stages(day.season, hour),
+            (DayKind::HalfPeakSaturday, _) => {
+                in_two_stages(day.season, hour, Period::SaturdayHalfPeak)
+            }
+            (DayKind::OffPeakDay, _) => Period::OffPeak,
+        }
+    }
 }
 
 // `high` in the hours that are peak on a working day of the two-stage calendar, and off-peak in the others.
 fn in_two_stages(season: Season, hour: u32, high: Period) -> Period
     ensures { result ≡ in_two_stages season hour high }
 {
-    let is_high = match season {
-        Season::Summer => lies_in(hour, 9, 24),
-        Season::NonSummer => lies_in(hour, 6, 11) || lies_in(hour, 14, 24),
-    };
-    if is_high { high } else { Period::OffPeak }
+    match (season, hour) {
+        (Season::Summer, 9..24) => high,
+        (Season::NonSummer, 6..11 | 14..24) => high,
+        _ => Period::OffPeak,
+    }
 }
 
 fn in_three_stages(season: Season, hour: u32) -> Period
     ensures { result ≡ in_three_stages season hour }
 {
-    match season {
-        Season::Summer => {
-            if lies_in(hour, 16, 22) {
-                Period::Peak
-            } else if lies_in(hour, 9, 16) || lies_in(hour, 22, 24) {
-                Period::HalfPeak
-            } else {
-                Period::OffPeak
-            }
-        }
-        Season::NonSummer => {
-            if lies_in(hour, 6, 11) || lies_in(hour, 14, 24) {
-                Period::HalfPeak
-            } else {
-                Period::OffPeak
-            }
-        }
+    match (season, hour) {
+        (Season::Summer, 16..22) => Period::Peak,
+        (Season::Summer, 9..16 | 22..24) => Period::HalfPeak,
+        (Season::NonSummer, 6..11 | 14..24) => Period::HalfPeak,
+        _ => Period::OffPeak,
     }
 }

@@ -1,9 +1,9 @@
 // The days and quarters of a billing period.
-ghost use Rattle.std.specs.Prelude.{◌≡◌, ◌*◌, ◌/◌, ◌%◌, ◌^◌, ◌<◌, ◌≤◌, true, IfSome, OnOk, ◌==◌, nat_le};
+ghost use Rattle.std.specs.Prelude.{◌≡◌, ◌*◌, ◌≤◌, IfSome, OnOk};
 ghost use Rattle.std.specs.Option.{option_map as changed};
 ghost use Rattle.std.specs.Result.{result_map_both};
 ghost use Rattle.refusals.specs.First.{first_met};
-ghost use Rattle.tariff.specs.BillingPeriods.{lawful, outside, reasons, terms_of, named, day_on, day_at, quarters_of, period_on, period_at};
+ghost use Rattle.tariff.specs.BillingPeriods.{reasons, terms_of, day_at, quarters_of, period_on, period_at};
 ghost use Rattle.tariff.specs.Counts.{counted, together, by_hours};
 ghost use Rattle.tariff.specs.Dates.{days_after};
 ghost use Rattle.tariff.specs.Laws.{DaysFollow};
@@ -17,29 +17,6 @@ use crate::terms::{Day, Terms};
 use crate::weekdays::Weekday;
 use refusals::Refusal;
 
-// Whether the number lies outside its limits.
-fn is_outside(number: u32, least: u32, most: u32) -> bool
-    ensures { result ≡ outside least most number }
-{
-    number < least || number > most
-}
-
-// Whether bit `place` of the map stands.
-fn bit(map: u32, place: u32) -> bool
-    requires { place < 32 }
-    ensures { result ≡ (map / 2 ^ place % 2 == 1) }
-{
-    (map >> place) % 2 == 1
-}
-
-// Whether the map has a bit past the days.
-fn passes(map: u32, days: u32) -> bool
-    requires { days < 32 }
-    ensures { result ≡ nat_le (2 ^ days) map }
-{
-    map >> days != 0
-}
-
 impl BillingPeriod {
     /// The billing period of these numbers. The map of off-peak days has bit 0 for the first day.
     pub fn new(
@@ -51,33 +28,22 @@ impl BillingPeriod {
         ensures answer { result_map_both (λ period. period.terms) (λ refusal. refusal) result ≡ first_met (reasons first days stages off_peak_map) (terms_of first days stages off_peak_map) }
         ensures days_follow { OnOk result (DaysFollow first) }
     {
-        if !first.exists() || is_outside(first.year, 2020, 2099) || is_outside(days, 1, 31) {
+        if !first.exists() || !(2020..=2099).contains(&first.year) || !(1..=31).contains(&days) {
             return Err(Refusal::NoSuchBillingPeriod);
         }
-        let Some(calendar) = Calendar::with_stages(stages) else {
-            return Err(Refusal::NoSuchBillingPeriod);
-        };
-        if passes(off_peak_map, days) {
+        let calendar = Calendar::try_from(stages)?;
+        if off_peak_map >> days != 0 {
             return Err(Refusal::NoSuchBillingPeriod);
         }
-        Ok(BillingPeriod::under(Terms {
-            first,
-            days,
-            calendar,
-            off_peak_map,
-        }))
-    }
-
-    // The billing period under lawful terms.
-    fn under(terms: Terms) -> BillingPeriod
-        requires { lawful terms ≡ true }
-        ensures terms { result.terms ≡ terms }
-        ensures days_follow { DaysFollow terms.first }
-    {
-        BillingPeriod {
-            terms,
-            first_weekday: terms.first.weekday(),
-        }
+        Ok(BillingPeriod {
+            terms: Terms {
+                first,
+                days,
+                calendar,
+                off_peak_map,
+            },
+            first_weekday: first.weekday(),
+        })
     }
 
     /// How many quarters the period has.
@@ -92,11 +58,24 @@ impl BillingPeriod {
     pub fn day(&self, number: u32) -> Option<Day>
         ensures { result ≡ day_at self.now.terms number }
     {
-        if number < self.terms.days {
-            Some(self.own_day(number))
-        } else {
-            None
+        if number >= self.terms.days {
+            return None;
         }
+        let date = self.terms.first.after(number);
+        let weekday = self.weekday_of(number);
+        Some(Day {
+            date,
+            weekday,
+            season: Season::in_month(date.month),
+            kind: DayKind::of(weekday, self.terms.is_named(number)),
+        })
+    }
+
+    // The weekday of a day by its number from 0.
+    fn weekday_of(&self, number: u32) -> Weekday
+        ensures { result ≡ weekday_of (days_after number self.now.terms.first) }
+    {
+        self.first_weekday.after(number)
     }
 
     /// How many of a day's 96 quarters are in each tariff period, where the billing period has the day.
@@ -106,50 +85,14 @@ impl BillingPeriod {
         ensures by_hours { result ≡ changed (λ day. by_hours self.now.terms.calendar day.season day.kind) (day_at self.now.terms number) }
     {
         let day = self.day(number)?;
-        Some(self.terms.calendar.quarters_by_period(day.season, day.kind))
-    }
-
-    fn date_of(&self, number: u32) -> Date
-        requires { number < self.now.terms.days }
-        ensures { result ≡ days_after number self.now.terms.first }
-    {
-        self.terms.first.after(number)
-    }
-
-    fn weekday_of(&self, number: u32) -> Weekday
-        ensures { result ≡ weekday_of (days_after number self.now.terms.first) }
-    {
-        self.first_weekday.after(number)
-    }
-
-    // A day that the period has.
-    fn own_day(&self, number: u32) -> Day
-        requires { number < self.now.terms.days }
-        ensures { result ≡ day_on (days_after number self.now.terms.first) (named self.now.terms number) }
-    {
-        let date = self.date_of(number);
-        let weekday = self.weekday_of(number);
-        let kind = DayKind::of(weekday, bit(self.terms.off_peak_map, number));
-        Day {
-            date,
-            weekday,
-            season: Season::in_month(date.month),
-            kind,
-        }
+        Some(self.terms.calendar.quarters_by_period(day))
     }
 
     /// The period of a quarter by its number from 0 throughout, where the billing period has it.
     pub fn period_of(&self, quarter: u32) -> Option<Period>
         ensures { result ≡ period_at self.now.terms quarter }
     {
-        if quarter >= self.quarters() {
-            return None;
-        }
-        let day = self.own_day(quarter / 96);
-        Some(
-            self.terms
-                .calendar
-                .period_at(day.season, day.kind, quarter % 96 / 4),
-        )
+        let day = self.day(quarter / 96)?;
+        Some(self.terms.calendar.period_on(day, quarter % 96))
     }
 }
