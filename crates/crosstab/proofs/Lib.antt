@@ -1,3 +1,3 @@
+pub mod Lines
 pub mod Totals
 pub mod SameWhole
-pub mod Answered

@@ -1,13 +1,7 @@
 -- What the laws of a kind give of many cards joined. Assumes nothing.
-use Rattle.std.proofs.Common.{◌≡◌, ℕ, ◌+◌, ◌<◌, List, [], ◌∷◌, ◌++◌, map, length, get_or, take, sym, refl, ap, ◌∙◌, zero-add}
-use Rattle.std.specs.List.{range_with_len}
-use Rattle.std.proofs.lemmas.List.{take_more}
-use Rattle.std.proofs.lemmas.List.FromFn.{map-range_with_len_more}
+use Rattle.std.proofs.Common.{◌≡◌, List, [], ◌∷◌, ◌++◌, map, sym, refl, ap, ◌∙◌}
+use Rattle.std.specs.List.{fold}
 use Rattle.crosstab.specs.Cards.{Laws, joined_all}
-
--- The cards at the places below n joined.
-abbrev pub joined_below : {C : Type 0} → C → (C → C → C) → (ℕ → C) → ℕ → C
-joined_below empty joined f n = joined_all empty joined (map f (range_with_len 0 n))
 
 module _ {C : Type 0} {empty : C} {joined : C → C → C} (laws : Laws empty joined) where
   with_empty : (x : C) → joined x empty ≡ x
@@ -18,26 +12,18 @@ module _ {C : Type 0} {empty : C} {joined : C → C → C} (laws : Laws empty jo
   joined_all-append (x ∷ xs) ys =
       ap (joined x) (joined_all-append xs ys) ∙ sym (laws.either_bracketing x (joined_all empty joined xs) (joined_all empty joined ys))
 
-  joined_all-push : (xs : List C) (x : C) → joined_all empty joined (xs ++ (x ∷ [])) ≡ joined (joined_all empty joined xs) x
-  joined_all-push xs x = joined_all-append xs (x ∷ []) ∙ ap (joined (joined_all empty joined xs)) (with_empty x)
+  -- Joined one after another, from a card on.
+  joined_from : (card : C) (cards : List C) → fold joined card cards ≡ joined card (joined_all empty joined cards)
+  joined_from card [] = sym (with_empty card)
+  joined_from card (next ∷ rest) = joined_from (joined card next) rest ∙ laws.either_bracketing card next (joined_all empty joined rest)
 
-  -- One card more of xs.
-  pub joined_all_more : (xs : List C) (i : ℕ) (x : C) → i < length xs → x ≡ get_or xs i x → joined (joined_all empty joined (take i xs)) x ≡ joined_all empty joined (take (i + 1) xs)
-  joined_all_more xs i x within read =
-      let pushed : take (i + 1) xs ≡ take i xs ++ (x ∷ []) = take_more xs i x within ∙ ap (λ y. take i xs ++ (y ∷ [])) (sym read) in
-      sym (ap (joined_all empty joined) pushed ∙ joined_all-push (take i xs) x)
-
-  -- One place more.
-  pub joined_below_more : (f : ℕ → C) (n : ℕ) → joined_below empty joined f (n + 1) ≡ joined (joined_below empty joined f n) (f n)
-  joined_below_more f n =
-      ap (joined_all empty joined) (map-range_with_len_more f 0 n n (zero-add n)) ∙ joined_all-push (map f (range_with_len 0 n)) (f n)
+  pub joined_by_fold : (cards : List C) → fold joined empty cards ≡ joined_all empty joined cards
+  joined_by_fold cards = joined_from empty cards ∙ laws.empty_changes_nothing (joined_all empty joined cards)
 
   -- Four cards in two pairs, paired either way.
   two_by_two : (a b c d : C) → joined (joined a b) (joined c d) ≡ joined (joined a c) (joined b d)
   two_by_two a b c d =
-      laws.either_bracketing a b (joined c d)
-      ∙ ap (joined a) (sym (laws.either_bracketing b c d) ∙ ap (λ x. joined x d) (laws.either_way_round b c) ∙ laws.either_bracketing c b d)
-      ∙ sym (laws.either_bracketing a c (joined b d))
+      cc (laws.either_bracketing a b (joined c d), laws.either_bracketing b c d, laws.either_way_round b c, laws.either_bracketing c b d, laws.either_bracketing a c (joined b d))
 
   empty_for_each : {K : Type 0} (ks : List K) → joined_all empty joined (map (λ (k : K). empty) ks) ≡ empty
   empty_for_each [] = refl

@@ -1,9 +1,9 @@
 -- The laws of period cards. Assumes nothing.
-use Rattle.std.specs.Prelude.{◌≡◌}
+use Rattle.std.specs.Prelude.{◌≡◌, refl}
 use Rattle.crosstab.specs.Cards.{Laws}
 use Rattle.crosstab.specs.Kinds.{periods_of, empty_periods, joined_periods}
 use Rattle.crosstab.specs.declared.period_card.PeriodCard.{PeriodCard}
-use Rattle.crosstab.specs.Stopping.{Four, Fit, fit_once, same_made, sums_of_nothing, sums_round, sums_brackets}
+use Rattle.crosstab.specs.Stopping.{Four, Fit, fit_once, same_made, laws_by_amounts}
 
 abbrev amounts : PeriodCard → Four
 amounts x = (x.peak, x.half_peak, x.saturday_half_peak, x.off_peak)
@@ -15,8 +15,4 @@ pub same_periods : (x y : PeriodCard) → amounts x ≡ amounts y → x ≡ y
 same_periods x y e = same_made Fit fit_once card_of e x.fits y.fits
 
 pub period_laws : Laws empty_periods joined_periods
-period_laws = record {
-  empty_changes_nothing = λ x. same_periods _ x (sums_of_nothing (amounts x) x.fits);
-  either_way_round = λ x y. same_periods _ _ (sums_round (amounts x) (amounts y));
-  either_bracketing = λ x y z. same_periods _ _ (sums_brackets (amounts x) (amounts y) (amounts z));
-}
+period_laws = laws_by_amounts amounts (λ x. x.fits) same_periods refl (λ x y. refl)

@@ -1,7 +1,7 @@
 // The charges of a bill.
 
 /// What is charged for each service.
-#[derive(Clone, Copy, PartialEq, Eq, Debug)]
+#[derive(Clone, Copy, Default, PartialEq, Eq, Debug)]
 pub struct Charges {
     pub transmission: u64,
     pub distribution: u64,

@@ -1,39 +1,77 @@
-// The whole of a table, and which lists of cards fill one.
-ghost use Rattle.std.specs.Prelude.{◌≡◌, ◌*◌, length, ◌==◌};
-ghost use Rattle.refusals.specs.First.{first_met};
+// A table of cards that lie by rows, and the totals of its rows and columns.
+ghost use Rattle.std.specs.Prelude.{◌≡◌, ◌*◌, ◌<◌, length, ◌==◌, is_ok, IfOk, IfErr};
+ghost use Rattle.refusals.specs.declared.Refusal.TheVariants.{UnlikeLengths};
 ghost use Rattle.crosstab.specs.Cards.{joined_all};
-ghost use Rattle.crosstab.specs.Tables.{whole_reasons};
+ghost use Rattle.crosstab.specs.Tables.{row, column, totals_by_row, totals_by_column};
 
 use crate::Card;
+use crate::joining::{joined, write_each};
 use refusals::Refusal;
 
-/// All cards of a table joined.
-pub fn whole<C: Card>(cards: &[C], rows: usize, columns: usize) -> Result<C, Refusal>
-    ensures { result ≡ first_met (whole_reasons (length cards.now) rows columns) (joined_all C.blank C.joined cards.now) }
-{
-    if !fills(cards.len(), rows, columns) {
-        return Err(Refusal::UnlikeLengths);
-    }
-    Ok(joined_all(cards))
+// Cards that fill a table.
+#[derive(Drop)]
+pub(crate) struct Table<'a, C> {
+    cards: &'a [C],
+    rows: usize,
+    columns: usize,
+    ghost filled: { length cards.now ≡ rows * columns },
 }
 
-// Whether so many cards fill a table. No number of cards is rows × columns where that passes 64 bits.
-pub(crate) fn fills(cards: usize, rows: usize, columns: usize) -> bool
-    ensures { result ≡ (cards == rows * columns) }
-{
-    match rows.checked_mul(columns) {
-        Some(places) => cards == places,
-        None => false,
+impl<'a, C: Card> Table<'a, C> {
+    // The table of these cards. No number of cards fills one where rows × columns passes 64 bits.
+    pub(crate) fn new(cards: &'a [C], rows: usize, columns: usize) -> Result<Table<'a, C>, Refusal>
+        ensures fills { is_ok result ≡ (length cards.now == rows * columns) }
+        ensures table { IfOk result (λ t. (t.cards.now ≡ cards.now) × (t.rows ≡ rows) × (t.columns ≡ columns)) }
+        ensures refusal { IfErr result (λ e. e ≡ UnlikeLengths) }
+    {
+        if rows.checked_mul(columns) != Some(cards.len()) {
+            return Err(Refusal::UnlikeLengths);
+        }
+        Ok(Table {
+            cards,
+            rows,
+            columns,
+        })
     }
-}
 
-// The cards joined, from the first.
-pub(crate) fn joined_all<C: Card>(cards: &[C]) -> C
-    ensures { result ≡ joined_all C.blank C.joined cards.now }
-{
-    let mut all = C::empty();
-    for card in cards {
-        all = all.join(*card);
+    // All cards joined.
+    pub(crate) fn whole(&self) -> C
+        ensures { result ≡ joined_all C.blank C.joined self.now.cards.now }
+    {
+        joined(self.cards.iter().copied())
     }
-    all
+
+    // The cards of row `r` joined.
+    #[tactic(auto, using(crate::proofs::Lines::row_by_range))]
+    fn row_total(&self, r: usize) -> C
+        requires { r < self.now.rows }
+        ensures { result ≡ joined_all C.blank C.joined (row C.blank self.now.cards.now self.now.columns r) }
+    {
+        let start = r * self.columns;
+        joined(self.cards[start..start + self.columns].iter().copied())
+    }
+
+    // The cards of column `c` joined.
+    fn column_total(&self, c: usize) -> C
+        requires { c < self.now.columns }
+        ensures { result ≡ joined_all C.blank C.joined (column C.blank self.now.cards.now self.now.rows self.now.columns c) }
+    {
+        joined(self.cards.chunks_exact(self.columns).map(|row| row[c]))
+    }
+
+    // Writes the total of each row.
+    pub(crate) fn write_row_totals(&self, totals: &mut [C])
+        requires { length totals.old ≡ self.now.rows }
+        ensures { totals.new ≡ totals_by_row C.blank C.joined self.now.cards.now self.now.rows self.now.columns }
+    {
+        write_each(totals, |r| self.row_total(r));
+    }
+
+    // Writes the total of each column.
+    pub(crate) fn write_column_totals(&self, totals: &mut [C])
+        requires { length totals.old ≡ self.now.columns }
+        ensures { totals.new ≡ totals_by_column C.blank C.joined self.now.cards.now self.now.rows self.now.columns }
+    {
+        write_each(totals, |c| self.column_total(c));
+    }
 }

@@ -1,6 +1,6 @@
 // Divisions by the two sharing rules, run.
 use refusals::Refusal;
-use sharing::{LeftOver, RunningTotal, SharingRule, divide_over_four};
+use sharing::{LeftOver, RunningTotal, SharingRule, divide};
 
 // Amount, weights, shares by running total, shares by left-over.
 const DIVISIONS: [(u32, [u32; 4], [u32; 4], [u32; 4]); 8] = [
@@ -32,12 +32,16 @@ const DIVISIONS: [(u32, [u32; 4], [u32; 4], [u32; 4]); 8] = [
 #[test]
 fn both_rules_give_the_worked_shares(rt: HostRuntime) {
     for (amount, weights, running, left) in DIVISIONS {
-        assert_eq!(rt;
-            divide_over_four(&RunningTotal, amount, &weights),
-            Ok(running)
-        );
-        assert_eq!(rt; divide_over_four(&LeftOver, amount, &weights), Ok(left));
+        assert_eq!(rt; divide(&RunningTotal, amount, &weights), Ok(running));
+        assert_eq!(rt; divide(&LeftOver, amount, &weights), Ok(left));
     }
+}
+
+#[test]
+fn any_number_of_weights_is_divided_over(rt: HostRuntime) {
+    assert_eq!(rt; divide(&RunningTotal, 10, &[1, 1, 1]), Ok([3, 3, 4]));
+    assert_eq!(rt; divide(&LeftOver, 10, &[1, 1, 1]), Ok([4, 3, 3]));
+    assert_eq!(rt; divide(&LeftOver, 1, &[1; 17]), Err(Refusal::UnlikeLengths));
 }
 
 #[test]

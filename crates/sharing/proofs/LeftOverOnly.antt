@@ -1,10 +1,10 @@
 -- No two lists are told alike by the remainders. Assumes nothing.
-use Rattle.std.proofs.Common.{◌≡◌, ℕ, zero, suc, ◌+◌, ◌*◌, ◌/◌, ◌<◌, ◌≤◌, ◌⊎◌, List, [], ◌∷◌, length, get_or, sum, sym, refl, ap, ◌∙◌, inl, inr, arith}
+use Rattle.std.proofs.Common.{◌≡◌, ℕ, zero, suc, ◌+◌, ◌*◌, ◌/◌, ◌<◌, ◌≤◌, ◌⊎◌, List, [], ◌∷◌, length, get_or, sum, sym, refl, ap, ◌∙◌, subst, inl, inr, arith}
 use Rattle.std.proofs.lemmas.List.Sums.{sum_by-cons}
 use Rattle.std.proofs.lemmas.Bool.{cases_lt}
 use Rattle.sharing.specs.Rule.{TheOne}
 use Rattle.sharing.specs.LeftOver.{left_over, ByRemainders}
-use Rattle.sharing.specs.LeftOverLaws.{left_over_laws}
+use Rattle.sharing.specs.LeftOverLaws.{length_of_left_over}
 use Rattle.sharing.proofs.LeftOverOrder.{by_remainders}
 
 -- No number of xs is above that of ys at its place.
@@ -52,18 +52,11 @@ same_if_below (x ∷ xs) (y ∷ ys) long same below =
 module _ (a : ℕ) (ws xs ys : List ℕ) (x : ByRemainders a ws xs) (y : ByRemainders a ws ys) where
   -- Where xs has more, it has the unit and ys has not.
   has_unit : (k : ℕ) → get_or ys k 0 < get_or xs k 0 → (get_or xs k 0 ≡ a * get_or ws k 0 / sum ws + 1) × (get_or ys k 0 ≡ a * get_or ws k 0 / sum ws)
-  has_unit k more =
-      elim (x.part_or_one_more k) [
-        | inl none ↦ elim (y.part_or_one_more k) [ inl also ↦ absurd (omega arith) | inr one ↦ absurd (omega arith) ]
-        | inr one ↦ elim (y.part_or_one_more k) [ inl none ↦ (one, none) | inr also ↦ absurd (omega arith) ]
-      ]
+  has_unit k more = let p = x.part_or_one_more k in let q = y.part_or_one_more k in (grind arith, grind arith)
 
 -- Two places cannot each go before the other.
 not_both : (rj rk j k : ℕ) → (rk < rj) ⊎ ((rk ≡ rj) × (j < k)) → (rj < rk) ⊎ ((rj ≡ rk) × (k < j)) → ⊥
-not_both rj rk j k (inl p) (inl q) = omega arith
-not_both rj rk j k (inl p) (inr q) = omega (arith, q.0)
-not_both rj rk j k (inr p) (inl q) = omega (arith, p.0)
-not_both rj rk j k (inr p) (inr q) = omega (arith, p.1, q.1)
+not_both rj rk j k first second = grind arith
 
 told_alike : (a : ℕ) (ws xs ys : List ℕ) → length xs ≡ length ws → length ys ≡ length ws → ByRemainders a ws xs → ByRemainders a ws ys → xs ≡ ys
 told_alike a ws xs ys long also x y =
@@ -80,9 +73,8 @@ told_alike a ws xs ys long also x y =
       ]
     ]
 
-pub the_one_by_remainders : (a : ℕ) (ws : List ℕ) → (sum ws ≡ 0 → a ≡ 0) → TheOne (ByRemainders a ws) (length ws) (left_over a ws)
-the_one_by_remainders a ws nothing = record {
+pub the_one_by_remainders : (a : ℕ) (ws shares : List ℕ) → (sum ws ≡ 0 → a ≡ 0) → shares ≡ left_over a ws → TheOne (ByRemainders a ws) (length ws) shares
+the_one_by_remainders a ws shares nothing e = subst (TheOne (ByRemainders a ws) (length ws)) (sym e) (record {
   told = by_remainders a ws nothing;
-  no_other = λ other long told.
-      told_alike a ws other (left_over a ws) long (left_over_laws.one_share_each a ws) told (by_remainders a ws nothing);
-}
+  no_other = λ other long told. told_alike a ws other (left_over a ws) long (length_of_left_over a ws) told (by_remainders a ws nothing);
+})

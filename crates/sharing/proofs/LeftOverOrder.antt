@@ -1,11 +1,13 @@
 -- The units that are left go by the remainders. Assumes nothing.
 use Rattle.std.proofs.Common.{◌≡◌, ℕ, zero, suc, ◌+◌, ◌-◌, ◌<◌, ◌⊎◌, List, length, get_or, set, sum, sym, refl, ap, ◌∙◌, subst, inl, inr, arith}
-use Rattle.std.proofs.lemmas.List.{get_or-set_same, get_or-set_other}
-use Rattle.std.proofs.lemmas.Bool.{cases_lt, cases_eq}
+use Rattle.std.proofs.lemmas.List.{get_or-set_other}
+use Rattle.std.proofs.lemmas.Bool.{cases_eq}
+use Rattle.std.proofs.lemmas.Grind.{common_steps}
 use Rattle.sharing.specs.LeftOver.{whole_parts, remainders, foremost, hand_out, left_over, ByRemainders}
 use Rattle.sharing.specs.LeftOverLaws.{State, start, step, some_rest, inside_if_some, units_are, part_at, rest_at, parts_le, parts_without_weight}
-use Rattle.sharing.specs.Nearest.{zero_or_more}
-use Rattle.sharing.specs.Peaks.{get_or-foremost, get_or-le_peak, foremost_first}
+use Rattle.std.proofs.Math.Nat.{eq-zero-or-pos}
+use Rattle.sharing.specs.Peaks.{get_or-foremost}
+use Rattle.sharing.proofs.Foremost.{get_or-le_peak, foremost_first}
 
 -- The place j goes before the place k, where ms are the remainders.
 abbrev Before : List ℕ → ℕ → ℕ → Type 0
@@ -22,36 +24,24 @@ module _ (ps ms rests shares : List ℕ) (n : ℕ) (s : Served ps ms rests share
   fresh = elim (s.each (foremost rests)) [ inl e ↦ e | inr e ↦ absurd (omega (arith, e.1)) ]
 
   goes_before : (k : ℕ) → (k ≡ foremost rests → ⊥) → get_or shares k 0 ≡ get_or ps k 0 → Before ms (foremost rests) k
-  goes_before k ne none =
-      let rest : get_or rests k 0 ≡ get_or ms k 0 = elim (s.each k) [ inl e ↦ e.1 | inr e ↦ omega (arith, e.0) ] in
-      elim (cases_lt (get_or ms k 0) (get_or ms (foremost rests) 0)) [
-        | inl lt ↦ inl lt
-        | inr ge ↦
-            let same : get_or ms k 0 ≡ get_or ms (foremost rests) 0 = omega (arith, fresh.1, get_or-le_peak rests k, get_or-foremost rests) in
-            inr (same, elim (cases_lt (foremost rests) k) [ inl lt ↦ lt | inr le ↦ omega (arith, foremost_first rests k (omega arith), fresh.1) ])
-      ]
+  goes_before k ne none = let had = s.each k in grind (arith, fresh, get_or-le_peak rests k, get_or-foremost rests, foremost_first rests k)
 
   serve : Served ps ms (set rests (foremost rests) 0) (set shares (foremost rests) (get_or shares (foremost rests) 0 + 1)) n
   serve =
       let b = foremost rests in
       let at_rest = inside_if_some rests b some in
-      let new_share = get_or-set_same shares b (get_or shares b 0 + 1) 0 inside in
-      let new_rest = get_or-set_same rests b 0 0 at_rest in
       record {
         each = λ k. elim (cases_eq k b) [
-          | inl e ↦ inr (
-            ap (λ x. get_or (set shares b (get_or shares b 0 + 1)) x 0) e ∙ new_share ∙ ap (λ x. x + 1) fresh.0 ∙ ap (λ x. get_or ps x 0 + 1) (sym e),
-            ap (λ x. get_or (set rests b 0) x 0) e ∙ new_rest,
-          )
+          | inl e ↦ inr (grind (arith, common_steps), grind (arith, common_steps))
           | inr ne ↦ rw (get_or-set_other shares b k (get_or shares b 0 + 1) 0 ne, get_or-set_other rests b k 0 0 ne) (s.each k)
         ];
         order = λ j k within more none. elim (cases_eq k b) [
-          | inl e ↦ absurd (omega (arith, none, ap (λ x. get_or (set shares b (get_or shares b 0 + 1)) x 0) e, new_share, fresh.0, ap (λ x. get_or ps x 0) e))
+          | inl e ↦ absurd (grind (arith, common_steps))
           | inr ne ↦
-              let kept : get_or shares k 0 ≡ get_or ps k 0 = sym (get_or-set_other shares b k (get_or shares b 0 + 1) 0 ne) ∙ none in
+              let kept : get_or shares k 0 ≡ get_or ps k 0 = grind (arith, common_steps) in
               elim (cases_eq j b) [
                 | inl e ↦ subst (λ x. Before ms x k) (sym e) (goes_before k ne kept)
-                | inr nj ↦ s.order j k within (sym (get_or-set_other shares b j (get_or shares b 0 + 1) 0 nj) ∙ more) kept
+                | inr nj ↦ s.order j k within (grind (arith, common_steps)) kept
               ]
         ];
       }
@@ -84,7 +74,7 @@ without_weight a ws none nothing = record {
 
 pub by_remainders : (a : ℕ) (ws : List ℕ) → (sum ws ≡ 0 → a ≡ 0) → ByRemainders a ws (left_over a ws)
 by_remainders a ws nothing =
-    elim (zero_or_more (sum ws)) [
+    elim (eq-zero-or-pos (sum ws)) [
       | inl none ↦ subst (ByRemainders a ws) (sym (parts_without_weight a ws none)) (without_weight a ws none (nothing none))
       | inr h ↦ with_weight a ws h
     ]

@@ -1,14 +1,14 @@
 -- The left-over rule keeps the laws of a sharing rule. Assumes nothing.
-use Rattle.std.specs.Prelude.{◌≡◌, ℕ, zero, suc, ◌+◌, ◌-◌, ◌*◌, ◌/◌, ◌%◌, ◌<◌, ◌≤◌, List, [], ◌∷◌, map, length, take, sum, ◌==◌, slice_index, slice_set, refl}
-use Rattle.std.proofs.Common.{sym, ap, subst, ◌∙◌, inl, inr, add-mul, one-mul, mul-add, mul-zero, div-add-mod', mod-lt, mul_comm, le_of_mul-le-mul_right, suc-mul, arith, length-set}
-use Rattle.std.proofs.Math.Nat.{zero-div, zero-mod, div-zero, mul-sub}
-use Rattle.std.proofs.lemmas.List.{get_or_past, get_or-map, length-map, get_or-set_same, get_or-set_other}
-use Rattle.std.proofs.lemmas.List.Sums.{sum_by-cons, sum_by-set, sum_by-take-le}
+use Rattle.std.specs.Prelude.{◌≡◌, ℕ, zero, suc, ◌+◌, ◌-◌, ◌*◌, ◌/◌, ◌%◌, ◌<◌, ◌≤◌, List, [], ◌∷◌, map, length, sum, ◌==◌, slice_index, slice_set, refl}
+use Rattle.std.proofs.Common.{get_or, sym, ap, subst, ◌∙◌, inl, inr, add-mul, one-mul, mul-add, mul-zero, div-add-mod', mod-lt, mul_comm, le_of_mul-le-mul_right, suc-mul, arith, length-set}
+use Rattle.std.proofs.Math.Nat.{zero-div, zero-mod, div-zero, mul-sub, eq-zero-or-pos}
+use Rattle.std.proofs.Math.ListN.{get_or-map}
+use Rattle.std.proofs.lemmas.List.{get_or_past, length-map, get_or-set_same, get_or-set_other}
+use Rattle.std.proofs.lemmas.List.Sums.{sum_by-cons, sum_by-set}
 use Rattle.std.proofs.lemmas.Bool.{cases_lt, cases_eq, cond-true, cond-false, eq-eqb, ne_eqb}
 use Rattle.sharing.specs.Rule.{Laws}
 use Rattle.sharing.specs.LeftOver.{whole_parts, remainders, units_left, peak, foremost, hand_out, left_over}
-use Rattle.sharing.specs.Nearest.{laws_if_near, zero_or_more}
-use Rattle.sharing.specs.RunningLaws.{sum_more}
+use Rattle.sharing.specs.Nearest.{laws_if_near}
 use Rattle.sharing.specs.Peaks.{get_or-foremost, sum_none}
 
 -- The whole parts and the remainders make up the amount.
@@ -27,7 +27,7 @@ parts_without a (w ∷ ws) = omega (arith, sum_by-cons (λ x. x) (a * w / 0) (ma
 
 pub parts_le : (a : ℕ) (ws : List ℕ) → sum (whole_parts a ws) ≤ a
 parts_le a ws =
-    elim (zero_or_more (sum ws)) [
+    elim (eq-zero-or-pos (sum ws)) [
       | inl none ↦ omega (arith, ap (λ t. sum (map (λ w. a * w / t) ws)) none ∙ parts_without a ws)
       | inr h ↦ le_of_mul-le-mul_right {k = sum ws} (omega (arith, parts_sum a (sum ws) ws)) h
     ]
@@ -47,26 +47,14 @@ pub record State (a : ℕ) (ws : List ℕ) (left : ℕ) (rests shares : List ℕ
   pub enough : left * sum ws ≤ sum rests
   pub fair : (k : ℕ) → Fair a (slice_index ws k) (sum ws) (slice_index shares k) (slice_index rests k)
 
-get_or_at : (f : ℕ → ℕ) → f 0 ≡ 0 → (xs : List ℕ) (k : ℕ) → slice_index (map f xs) k ≡ f (slice_index xs k)
-get_or_at f e xs k =
-    elim (cases_lt k (length xs)) [
-      | inl h ↦ get_or-map f xs k 0 0 h
-      | inr h ↦ let past : length (map f xs) ≤ k = omega (arith, length-map xs f) in
-          get_or_past (map f xs) k 0 past ∙ sym (ap f (get_or_past xs k 0 h) ∙ e)
-    ]
+at_zero : (f : ℕ → ℕ) → f 0 ≡ 0 → (xs : List ℕ) (k : ℕ) → slice_index (map f xs) k ≡ f (slice_index xs k)
+at_zero f e xs k = ap (λ d. get_or (map f xs) k d) (sym e) ∙ get_or-map f xs k 0
 
 pub part_at : (a : ℕ) (ws : List ℕ) (k : ℕ) → slice_index (whole_parts a ws) k ≡ a * slice_index ws k / sum ws
-part_at a ws k = get_or_at (λ w. a * w / sum ws) (ap (λ p. p / sum ws) (mul-zero a) ∙ zero-div (sum ws)) ws k
+part_at a ws k = at_zero (λ w. a * w / sum ws) (ap (λ p. p / sum ws) (mul-zero a) ∙ zero-div (sum ws)) ws k
 
 pub rest_at : (a : ℕ) (ws : List ℕ) (k : ℕ) → slice_index (remainders a ws) k ≡ a * slice_index ws k % sum ws
-rest_at a ws k = get_or_at (λ w. a * w % sum ws) (ap (λ p. p % sum ws) (mul-zero a) ∙ zero-mod (sum ws)) ws k
-
--- one whole part more, and all that are shared so far
-pub part_more : (a : ℕ) (ws : List ℕ) (i : ℕ) → sum (take (i + 1) (whole_parts a ws)) ≡ sum (take i (whole_parts a ws)) + a * slice_index ws i / sum ws
-part_more a ws i = sum_more (whole_parts a ws) i ∙ ap (λ p. sum (take i (whole_parts a ws)) + p) (part_at a ws i)
-
-pub parts_taken_le : (a : ℕ) (ws : List ℕ) (i : ℕ) → sum (take i (whole_parts a ws)) ≤ a
-parts_taken_le a ws i = omega (arith, sum_by-take-le (λ x. x) (whole_parts a ws) i, parts_le a ws)
+rest_at a ws k = at_zero (λ w. a * w % sum ws) (ap (λ p. p % sum ws) (mul-zero a) ∙ zero-mod (sum ws)) ws k
 
 fair_parts : (a w t : ℕ) → 0 < t → Fair a w t (a * w / t) (a * w % t)
 fair_parts a w t h =
@@ -137,13 +125,8 @@ pub hand_out-length : (left : ℕ) (rests shares : List ℕ) → length (hand_ou
 hand_out-length zero rests shares = refl
 hand_out-length (suc left) rests shares = hand_out-length left _ _ ∙ length-set shares (foremost rests) (slice_index shares (foremost rests) + 1)
 
--- One unit handed out, as the code does it.
-pub hand_out_next : (n m : ℕ) (rests shares rests_after shares_after : List ℕ) (b : ℕ) → n ≡ suc m → b ≡ foremost rests →
-    rests_after ≡ slice_set rests b 0 → shares_after ≡ slice_set shares b (slice_index shares b + 1) → hand_out m rests_after shares_after ≡ hand_out n rests shares
-hand_out_next n m rests shares rests_after shares_after b e f r s =
-    let there = ap (λ j. hand_out m (slice_set rests j 0) (slice_set shares j (slice_index shares j + 1))) f in
-    let next : hand_out (suc m) rests shares ≡ hand_out n rests shares = ap (λ k. hand_out k rests shares) (sym e) in
-    ap (λ xs. hand_out m xs shares_after) r ∙ ap (λ xs. hand_out m (slice_set rests b 0) xs) s ∙ there ∙ next
+pub length_of_left_over : (a : ℕ) (ws : List ℕ) → length (left_over a ws) ≡ length ws
+length_of_left_over a ws = hand_out-length (units_left a ws) (remainders a ws) (whole_parts a ws) ∙ length-map ws (λ w. a * w / sum ws)
 
 record Done (a : ℕ) (ws shares : List ℕ) : Type 0 where
   alike : length shares ≡ length ws
@@ -168,26 +151,13 @@ done a ws h =
     subst (λ n. Done a ws (hand_out n (remainders a ws) (whole_parts a ws))) (sym (units_are a ws h))
     (finish a ws (a - sum (whole_parts a ws)) (remainders a ws) (whole_parts a ws) h (start a ws h))
 
--- The list as the code comes to it, where there is no amount without weight.
-pub left_over_is : (a : ℕ) (ws : List ℕ) (given : ℕ) (rests shares : List ℕ) → (sum ws ≡ 0 → a ≡ 0) → given ≡ sum (whole_parts a ws) → rests ≡ remainders a ws → shares ≡ whole_parts a ws →
-    hand_out (a - given) rests shares ≡ left_over a ws
-left_over_is a ws given rests shares nothing e f g =
-    let u : a - sum (whole_parts a ws) ≡ units_left a ws = elim (zero_or_more (sum ws)) [
-      | inl none ↦ omega (arith, nothing none, cond-true (sum ws == 0) 0 (a - sum (whole_parts a ws)) (eq-eqb (sum ws) 0 none))
-      | inr h ↦ sym (units_are a ws h)
-    ] in cc
-
-pub some_place : (ws : List ℕ) → 0 < sum ws → 0 < length ws
-some_place [] h = omega arith
-some_place (w ∷ ws) h = omega arith
-
 pub parts_without_weight : (a : ℕ) (ws : List ℕ) → sum ws ≡ 0 → left_over a ws ≡ whole_parts a ws
 parts_without_weight a ws e =
     ap (λ n. hand_out n (remainders a ws) (whole_parts a ws)) (cond-true (sum ws == 0) 0 (a - sum (whole_parts a ws)) (eq-eqb (sum ws) 0 e))
 
 pub left_over_laws : Laws left_over 1
 left_over_laws = laws_if_near left_over (record {
-  one_share_each = λ a ws. hand_out-length (units_left a ws) (remainders a ws) (whole_parts a ws) ∙ length-map ws (λ w. a * w / sum ws);
+  one_share_each = length_of_left_over;
   nothing_lost = λ a ws h. (done a ws h).all;
   no_weight = λ a ws e k.
       ap (λ xs. slice_index xs k) (parts_without_weight a ws e) ∙ part_at a ws k ∙ ap (λ t. a * slice_index ws k / t) e ∙ div-zero (a * slice_index ws k);

@@ -1,8 +1,8 @@
 pub mod Rule
 pub mod RunningTotal
 pub mod LeftOver
+pub mod Portion
 pub mod LeftOverLaws
 pub mod Nearest
 pub mod RunningLaws
-pub mod Portions
 pub mod Peaks

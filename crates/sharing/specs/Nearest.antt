@@ -1,6 +1,7 @@
 -- Laws that follow from the others where the tolerance is 1. Assumes nothing.
-use Rattle.std.specs.Prelude.{◌≡◌, ℕ, zero, suc, ◌+◌, ◌*◌, ◌<◌, ◌≤◌, ◌⊎◌, List, length, sum, slice_index, refl}
+use Rattle.std.specs.Prelude.{◌≡◌, ℕ, zero, suc, ◌+◌, ◌*◌, ◌<◌, ◌≤◌, List, length, sum, slice_index, refl}
 use Rattle.std.proofs.Common.{ap, ◌∙◌, inl, inr, one-mul, mul-zero, mul-le-mul_right, mul_comm, add-mul, lt_of_mul-lt-mul_right, arith}
+use Rattle.std.proofs.Math.Nat.{eq-zero-or-pos}
 use Rattle.sharing.specs.Rule.{Laws}
 
 -- A share that is less than one unit above its exact part is 0 at weight 0, and at most the weight where the amount is at most the sum.
@@ -22,20 +23,16 @@ pub record Near (shares : ℕ → List ℕ → List ℕ) : Type 0 where
   pub not_over : (amount : ℕ) (weights : List ℕ) (k : ℕ) → 0 < sum weights → slice_index (shares amount weights) k * sum weights < amount * slice_index weights k + sum weights
   pub not_under : (amount : ℕ) (weights : List ℕ) (k : ℕ) → 0 < sum weights → amount * slice_index weights k < slice_index (shares amount weights) k * sum weights + sum weights
 
-pub zero_or_more : (n : ℕ) → (n ≡ 0) ⊎ (0 < n)
-zero_or_more zero = inl refl
-zero_or_more (suc n) = inr (omega arith)
-
 pub laws_if_near : (shares : ℕ → List ℕ → List ℕ) → Near shares → Laws shares 1
 laws_if_near shares n = record {
   one_share_each = n.one_share_each;
   nothing_lost = n.nothing_lost;
   no_weight = n.no_weight;
-  zero_gets_zero = λ a ws k none. elim (zero_or_more (sum ws)) [
+  zero_gets_zero = λ a ws k none. elim (eq-zero-or-pos (sum ws)) [
     | inl e ↦ n.no_weight a ws e k
     | inr h ↦ zero_if_near (slice_index (shares a ws) k) (slice_index ws k) a (sum ws) (n.not_over a ws k h) none
   ];
-  at_most_its_weight = λ a ws k small. elim (zero_or_more (sum ws)) [
+  at_most_its_weight = λ a ws k small. elim (eq-zero-or-pos (sum ws)) [
     | inl e ↦ omega (arith, n.no_weight a ws e k)
     | inr h ↦ at_most_if_near (slice_index (shares a ws) k) (slice_index ws k) a (sum ws) (n.not_over a ws k h) small
   ];

@@ -1,15 +1,9 @@
-// What a sharing rule is, and what every rule checks first.
-ghost use Rattle.std.specs.Prelude.{◌≡◌, ℕ, ◌≤◌, List, length, is_ok, if◌then◌else◌, sum};
+// What a sharing rule is, and the division by any rule.
+ghost use Rattle.std.specs.Prelude.{◌≡◌, ℕ, List, length, is_ok, if◌then◌else◌, sum, IfOk};
 ghost use Rattle.refusals.specs.First.{first_met, Decides};
-ghost use Rattle.sharing.specs.Rule.{Laws, reasons};
+ghost use Rattle.sharing.specs.Rule.{Laws, NearExact, reasons};
 
 use refusals::Refusal;
-
-/// The most weights that one call shares over.
-pub(crate) const MOST_WEIGHTS: usize = 16;
-
-/// The largest amount, and the largest sum of weights.
-const LARGEST: u32 = 4_000_000_000;
 
 /// A way to share an amount over a list of weights in whole units.
 pub trait SharingRule {
@@ -19,6 +13,7 @@ pub trait SharingRule {
     // A share lies less than so many units from its exact part.
     ghost tolerance: { Self → ℕ };
 
+    // Each rule writes out the check and the write: one function for both would take a closure, and its clauses, to save two lines.
     /// Writes the shares of `amount` over `weights` to `shares`, which stay as they are under a refusal.
     fn split(&self, amount: u32, weights: &[u32], shares: &mut [u32]) -> Result<(), Refusal>
         ensures answer { result ≡ first_met (reasons amount weights.now (length shares.old)) tt }
@@ -29,31 +24,29 @@ pub trait SharingRule {
     ghost laws: { (rule : Self) → Laws (meaning rule) (tolerance rule) };
 }
 
-// The sum of the weights, which are few enough that it fits.
-fn sum_of(weights: &[u32]) -> u64
-    requires { length weights.now ≤ 16 }
-    ensures { result ≡ sum weights.now }
+/// The shares of `amount` over any number of weights. They add up to the amount.
+pub fn divide<R: SharingRule, const N: usize>(
+    rule: &R,
+    amount: u32,
+    weights: &[u32; N],
+) -> Result<[u32; N], Refusal>
+    ensures answer { result ≡ first_met (reasons amount weights.now N) (R.meaning rule.now amount weights.now) }
+    ensures nothing_lost { IfOk result (λ shares. sum shares ≡ amount) }
+    ensures near_exact { IfOk result (NearExact (R.tolerance rule.now) amount weights.now) }
+    ensures first_reason { Decides (reasons amount weights.now N) result }
 {
-    let mut total = 0;
-    for weight in weights {
-        total += u64::from(*weight);
-    }
-    total
+    array_of_shares(rule, amount, weights)
 }
 
-// The sum of the weights, or why the call is refused.
-pub(crate) fn checked_total(amount: u32, weights: &[u32], places: usize) -> Result<u32, Refusal>
-    ensures { result ≡ first_met (reasons amount weights.now places) (sum weights.now) }
+// The shares in an array of their own.
+fn array_of_shares<R: SharingRule, const N: usize>(
+    rule: &R,
+    amount: u32,
+    weights: &[u32; N],
+) -> Result<[u32; N], Refusal>
+    ensures { result ≡ first_met (reasons amount weights.now N) (R.meaning rule.now amount weights.now) }
 {
-    if weights.len() != places || weights.len() > MOST_WEIGHTS {
-        return Err(Refusal::UnlikeLengths);
-    }
-    let total = sum_of(weights);
-    if amount > LARGEST || total > u64::from(LARGEST) {
-        return Err(Refusal::AmountTooLarge);
-    }
-    if total == 0 && amount != 0 {
-        return Err(Refusal::NoWeight);
-    }
-    Ok(total as u32)
+    let mut shares = [0; N];
+    rule.split(amount, weights, &mut shares)?;
+    Ok(shares)
 }

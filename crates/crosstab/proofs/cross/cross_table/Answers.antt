@@ -1,12 +1,8 @@
-use Rattle.crosstab.proofs.Answered.{answered_same_whole}
+use Rattle.crosstab.proofs.SameWhole.{same_whole}
 use Rattle.crosstab.proofs.cross.cross_table.Goals as goal
 
-pub returns : goal.returns
-returns g c =
-    let both = c.both_totals.ensures in
-    record {
-      answer = both.answer;
-      row_buffer = both.row_buffer;
-      column_buffer = both.column_buffer;
-      same_whole = answered_same_whole g.met.C.Card.laws c.args.cards.now c.args.rows c.args.columns _ _ _ _ _ both.answer both.row_buffer both.column_buffer;
-    }
+pub returns-clause-same_whole : goal.returns-clause-same_whole
+returns-clause-same_whole g c =
+    let table = c.in_ok-table.table in
+    let whole = same_whole g.met.C.Card.laws table.cards.now table.rows table.columns table.filled in
+    rw (c.write_row_totals.ensures, c.write_column_totals.ensures, c.whole.ensures) whole
