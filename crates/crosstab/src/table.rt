@@ -1,12 +1,15 @@
 // A table of cards that lie by rows, and the totals of its rows and columns.
 ghost use Rattle.std.specs.Prelude.{◌≡◌, ◌*◌, ◌<◌, length, ◌==◌, is_ok, IfOk, IfErr};
 ghost use Rattle.refusals.specs.declared.Refusal.TheVariants.{UnlikeLengths};
+ghost use Rattle.std.specs.Iterator.Runs.{EveryRun, IsChunksExactRun};
+ghost use Rattle.std.specs.Slice.Iter.{chunks_exact_rest, chunks_exact_size, chunks_exact_steps};
 ghost use Rattle.crosstab.specs.Cards.{joined_all};
 ghost use Rattle.crosstab.specs.Tables.{row, column, totals_by_row, totals_by_column};
 
 use crate::Card;
 use crate::joining::{joined, write_each};
 use refusals::Refusal;
+use std::slice::ChunksExact;
 
 // Cards that fill a table.
 #[derive(Drop)]
@@ -51,12 +54,22 @@ impl<'a, C: Card> Table<'a, C> {
         joined(self.cards[start..start + self.columns].iter().copied())
     }
 
+    // The rows, one after another.
+    fn each_row(&self) -> ChunksExact<'_, C>
+        requires { 0 < self.now.columns }
+        ensures cards { chunks_exact_rest result ≡ self.now.cards.now }
+        ensures size { chunks_exact_size result ≡ self.now.columns }
+        ensures runs { EveryRun (chunks_exact_steps {A = C}) (λ p. 0 < chunks_exact_size p.from → IsChunksExactRun p (chunks_exact_size p.from) (chunks_exact_rest p.from)) }
+    {
+        self.cards.chunks_exact(self.columns)
+    }
+
     // The cards of column `c` joined.
     fn column_total(&self, c: usize) -> C
         requires { c < self.now.columns }
         ensures { result ≡ joined_all C.blank C.joined (column C.blank self.now.cards.now self.now.rows self.now.columns c) }
     {
-        joined(self.cards.chunks_exact(self.columns).map(|row| row[c]))
+        joined(self.each_row().map(|row| row[c]))
     }
 
     // Writes the total of each row.
