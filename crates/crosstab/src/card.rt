@@ -11,6 +11,7 @@ pub trait Card: Copy {
     ghost joined: { Self → Self → Self };
 
     /// The card that changes nothing.
+    // A method of its own: `Default` cannot be derived where a card has a ghost field, and would say no more.
     fn empty() -> Self
         ensures answer { result ≡ blank };
 

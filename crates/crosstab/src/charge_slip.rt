@@ -8,6 +8,7 @@ use crate::{Card, Charges};
 #[derive(Clone, Copy, PartialEq, Eq, Debug)]
 pub struct ChargeSlip {
     charges: Charges,
+    // A mark that is part of a slip, and no tag that says whether there are charges.
     charged: bool,
     // Each charge has 64 bits.
     ghost fits: { AllFit charges.transmission charges.distribution charges.ancillary_service charges.dispatch },

@@ -4,6 +4,8 @@ ghost use Rattle.refusals.specs.First.{first_met};
 ghost use Rattle.crosstab.specs.Cards.{joined_all};
 ghost use Rattle.crosstab.specs.Tables.{totals_by_row, totals_by_column, whole_reasons, row_reasons, column_reasons, cross_reasons, SameWhole};
 
+// The calls take cards, rows and columns apart, since it is theirs to refuse what is no table. Each names a definition of its own,
+// so rows and columns have a call each; the text behind them is one.
 use crate::Card;
 use crate::table::Table;
 use refusals::Refusal;

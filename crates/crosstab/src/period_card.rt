@@ -4,6 +4,7 @@ ghost use Rattle.crosstab.specs.Amounts.{AllFit};
 use crate::Card;
 
 /// An amount for each tariff period.
+// A type of its own beside the tariff's counts of quarters: those have no ghost field, are joined by no law, and no table needs a tariff.
 #[derive(Clone, Copy, PartialEq, Eq, Debug)]
 pub struct PeriodCard {
     pub peak: u64,

@@ -6,6 +6,7 @@ ghost use Rattle.day_list.specs.Listing.{letter_of, letter_at, hours_text};
 use std::fmt;
 use tariff::{BillingPeriod, Period};
 
+// The letters are the list's own, so the tariff's `Display` is not the place for them.
 fn letter_of(period: Period) -> &'static str
     ensures { result.now ≡ letter_of period }
 {

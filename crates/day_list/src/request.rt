@@ -14,6 +14,7 @@ use tariff::{BillingPeriod, Date};
 pub(crate) struct Request {
     first: Date,
     days: u32,
+    // A number, as the line has it: whether there is such a calendar is for the billing period to say.
     stages: u32,
     off_peak_map: u32,
 }

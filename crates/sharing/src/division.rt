@@ -18,23 +18,23 @@ const LARGEST: u32 = 4_000_000_000;
 /// An amount and the weights over which it is divided, of a call that meets no reason to refuse it.
 #[derive(Clone, Copy)]
 pub(crate) struct Division<'a> {
-    pub amount: u32,
-    pub weights: &'a [u32],
+    pub(crate) amount: u32,
+    pub(crate) weights: &'a [u32],
     /// The sum of the weights.
-    pub total: u32,
+    pub(crate) total: u32,
     ghost admitted: { Admitted amount weights.now (length weights.now) total },
 }
 
 /// What amount × weight / total comes to: whole units, and what remains of the product.
 #[derive(Clone, Copy, Default)]
 pub(crate) struct Portion {
-    pub units: u32,
-    pub remainder: u32,
+    pub(crate) units: u32,
+    pub(crate) remainder: u32,
 }
 
 impl Portion {
     /// Adds a unit, after which nothing remains.
-    pub fn add_unit(&mut self)
+    pub(crate) fn add_unit(&mut self)
         requires { self.old.units + 1 < 2 ^ 32 }
         ensures units { self.new.units ≡ self.old.units + 1 }
         ensures remainder { self.new.remainder ≡ 0 }
@@ -54,7 +54,7 @@ fn sum_of(weights: &[u32]) -> u64
 
 impl<'a> Division<'a> {
     /// The division, or why the call is refused.
-    pub fn new(amount: u32, weights: &'a [u32], places: usize) -> Result<Self, Refusal>
+    pub(crate) fn new(amount: u32, weights: &'a [u32], places: usize) -> Result<Self, Refusal>
         ensures answer { result_map_both (λ division. division.total) (λ refusal. refusal) result
             ≡ first_met (reasons amount weights.now places) (sum weights.now) }
         ensures places { OnOk result (length weights.now ≡ places) }
@@ -86,7 +86,7 @@ impl<'a> Division<'a> {
     }
 
     /// The exact part of a weight. Without any weight, nothing is shared and nothing remains.
-    pub fn portion_of(&self, weight: u32) -> Portion
+    pub(crate) fn portion_of(&self, weight: u32) -> Portion
         requires { weight ≤ self.now.total }
         ensures units { result.units ≡ self.now.amount * weight / self.now.total }
         ensures remainder { result.remainder ≡ self.now.amount * weight % self.now.total }
@@ -103,7 +103,7 @@ impl<'a> Division<'a> {
     }
 
     /// The exact part of each weight.
-    pub fn portions(&self) -> ArrayVec<Portion, MOST_WEIGHTS>
+    pub(crate) fn portions(&self) -> ArrayVec<Portion, MOST_WEIGHTS>
         ensures units { units_of result.items ≡ whole_parts self.now.amount self.now.weights.now }
         ensures remainders { remainders_of result.items ≡ remainders self.now.amount self.now.weights.now }
     {

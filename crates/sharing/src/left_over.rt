@@ -76,6 +76,7 @@ fn hand_out(left: u32, portions: &mut [Portion])
     requires { sum (units_of portions.old) + left < 2 ^ 32 }
     ensures { units_of portions.new ≡ hand_out left (remainders_of portions.old) (units_of portions.old) }
 {
+    // The units are alike, so nothing is counted but how often.
     for _ in 0..left {
         add_unit_to_largest(portions);
     }

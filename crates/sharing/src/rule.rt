@@ -13,8 +13,8 @@ pub trait SharingRule {
     // A share lies less than so many units from its exact part.
     ghost tolerance: { Self → ℕ };
 
-    // Each rule writes out the check and the write: one function for both would take a closure, and its clauses, to save two lines.
     /// Writes the shares of `amount` over `weights` to `shares`, which stay as they are under a refusal.
+    // Each rule writes out the check and the write: its `split` promises what no other rule does, which a body for all could not say.
     fn split(&self, amount: u32, weights: &[u32], shares: &mut [u32]) -> Result<(), Refusal>
         ensures answer { result ≡ first_met (reasons amount weights.now (length shares.old)) tt }
         ensures first_reason { Decides (reasons amount weights.now (length shares.old)) result }
@@ -46,6 +46,7 @@ fn array_of_shares<R: SharingRule, const N: usize>(
 ) -> Result<[u32; N], Refusal>
     ensures { result ≡ first_met (reasons amount weights.now N) (R.meaning rule.now amount weights.now) }
 {
+    // A rule writes to a buffer that it is lent, so there is one first.
     let mut shares = [0; N];
     rule.split(amount, weights, &mut shares)?;
     Ok(shares)

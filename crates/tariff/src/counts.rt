@@ -39,6 +39,7 @@ impl Calendar {
         ensures by_hours { result ≡ by_hours self day.season day.kind }
     {
         let mut counts = QuartersByPeriod::default();
+        // The quarters are numbers and no list, so a range is their plain form.
         for quarter in 0..96 {
             counts.add(self.period_on(day, quarter));
         }

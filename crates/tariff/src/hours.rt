@@ -53,7 +53,7 @@ impl Season {
 }
 
 impl DayKind {
-    // What a day of the weekday counts as, where `named` says whether it is named as off-peak.
+    // What a day of the weekday counts as, where `named` says whether it is named as off-peak. It takes two values, so it is no `From`.
     pub(crate) fn of(weekday: Weekday, named: bool) -> DayKind
         ensures { result ≡ kind_of weekday named }
     {
@@ -68,6 +68,7 @@ impl DayKind {
 
 impl Period {
     /// The number of the period, from 0.
+    // By cases, as the definition has them: discriminants and a cast would say no more.
     pub fn number(self) -> usize
         ensures is { result ≡ number_of self }
         ensures one_of_four { result < 4 }

@@ -19,6 +19,7 @@ use refusals::Refusal;
 
 impl BillingPeriod {
     /// The billing period of these numbers. The map of off-peak days has bit 0 for the first day.
+    // The calendar is its number of stages here, since a narrower type would ask more of callers.
     pub fn new(
         first: Date,
         days: u32,
