@@ -1,7 +1,8 @@
 -- What the letters of a day tell, by their places. Assumes nothing.
-use Rattle.std.proofs.Common.{◌≡◌, ℕ, zero, suc, ◌+◌, ◌*◌, ◌/◌, ◌%◌, ◌<◌, cond, List, [], ◌∷◌, ◌++◌, length, take, drop, Some, None, sym, refl, ap, ◌∙◌, arith, lt-ltb}
+use Rattle.std.proofs.Common.{◌≡◌, ℕ, zero, suc, ◌+◌, ◌*◌, ◌/◌, ◌%◌, ◌<◌, cond, List, [], ◌∷◌, ◌++◌, map, length, take, drop, Some, None, sym, refl, ap, ◌∙◌, arith, lt-ltb}
 use Rattle.std.specs.List.{range_with_len, flat_map}
 use Rattle.std.specs.Option.{option_map}
+use Rattle.std.proofs.lemmas.List.FromFn.{length-map-range_with_len}
 use Rattle.tariff.specs.declared.hours.Calendar.{Calendar}
 use Rattle.tariff.specs.declared.hours.Calendar.TheVariants.{TwoStage, ThreeStage}
 use Rattle.tariff.specs.declared.hours.Season.{Season}
@@ -35,11 +36,7 @@ letter_code OffPeak = refl
 
 -- One byte for each of so many places.
 abbrev row : (ℕ → ℕ) → ℕ → ℕ → List ℕ
-row code a n = flat_map (λ k. code k ∷ []) (range_with_len a n)
-
-row_length : (code : ℕ → ℕ) (n a : ℕ) → length (row code a n) ≡ n
-row_length code zero a = refl
-row_length code (suc n) a = ap suc (row_length code n (a + 1))
+row code a n = map code (range_with_len a n)
 
 row_at : (code : ℕ → ℕ) (n a j : ℕ) → j < n → take 1 (drop j (row code a n)) ≡ code (a + j) ∷ []
 row_at code zero a j lt = absurd (omega arith)
@@ -122,7 +119,7 @@ quarter_told terms quarter lt =
 
 pub letters_tell : (terms : Terms) → LettersTell terms
 letters_tell terms = record {
-  letter_an_hour = λ number lt. ap length (hours_row terms number lt) ∙ row_length (hour_code terms number) 24 0;
+  letter_an_hour = λ number lt. ap length (hours_row terms number lt) ∙ length-map-range_with_len (hour_code terms number) 0 24;
   every_quarter = quarter_told terms;
   counts_agree = counts_told terms;
 }

@@ -9,6 +9,7 @@ use refusals::Refusal;
 use std::alloc::{AllocError, Global};
 
 // Holds what the letters of every list tell.
+#[tactic(auto, using(crate::proofs::LettersTell::letters_tell))]
 fn letters_tell()
     ensures { AllLettersTell }
 {}
