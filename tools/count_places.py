@@ -74,7 +74,8 @@ def by_line(root, pattern):
 
 
 def shape(body):
-    text = re.sub(r"\b\w+\b", "w", " ".join(body))
+    text = re.sub(r"\b\w+\b", "w", re.sub(r'"[^"]*"', "w", " ".join(body)))
+    text = re.sub(r",?\s*\)", ")", re.sub(r"\(\s*", "(", text))
     return re.sub(r"\s+", " ", text)
 
 
@@ -83,6 +84,7 @@ def twins(root):
     groups = collections.defaultdict(list)
     for path in sources(root):
         for number, name, _, _, body in functions(path):
+            body = [line for line in body if not line.startswith("//")]
             if len(body) >= 3:
                 groups[shape(body)].append(f"{os.path.relpath(path, root)}:{number}: {name}")
     for group in groups.values():
@@ -130,10 +132,10 @@ POINTS = [
     ("2 twins by the shape of the body", twins),
     ("3 loops", lambda r: by_line(r, r"^\s*(for|while|loop)\b")),
     ("3 of these by an index or a cursor", lambda r: by_line(r, r"^\s*for \(\w+, \w+\) in .*enumerate\(\)|^\s*for \w+ in .*\.\.|^\s*while ")),
-    ("4 conversions, printing and zeros by hand", lambda r: by_line(r, r"impl (From|PartialEq|Eq|PartialOrd|Ord|Default|Clone|Copy|Hash)\b.* for |fn (name|letter|word|number|with_stages|of|empty|no_\w+)[(<]|out: &mut String")),
+    ("4 conversions, printing and zeros by hand", lambda r: by_line(r, r"impl (From|PartialEq|Eq|PartialOrd|Ord|Default|Clone|Copy|Hash)\b.* for |fn (name|letter|letter_of|word|number|with_stages|of|empty|no_\w+)[(<]|out: &mut String")),
     ("5 facts in three contracts or more", repeated_facts),
     ("5 parameters that travel together", travellers),
-    ("6 fixed buffers and places by index", lambda r: by_line(r, r"= \[\w+; |^\s*(\w+)\[\w+\] |\[\w+\.\.|\w+\[\w+( [*+] \w+)*\][,);]")),
+    ("6 fixed buffers and places by index", lambda r: by_line(r, r"= \[\w+; |\[\w+\.\.|\w\[\w+( [*/+] \w+)*\]")),
     ("7 calls chosen at run time", lambda r: by_line(r, r": fn\(|dyn |Box<|impl Fn|: Fn(Once|Mut)?\(")),
     ("8 proof files", proofs),
 ]

@@ -2,7 +2,7 @@
 #![tactic(auto)]
 
 ghost use Rattle.std.specs.Prelude.{◌≡◌, ℕ, List, length, IfOk, IfSome, OnOk, string_bytes, decimal};
-ghost use Rattle.std.specs.Io.KnownBytes.{Appends};
+ghost use Rattle.std.specs.Io.KnownBytes.{Appends, IsAtEnd};
 
 use std::alloc::{AllocError, Global};
 use std::io;
@@ -26,6 +26,7 @@ pub fn answer_all<A: Answer, R: Read, W: Write>(
     writer: &mut W,
 ) -> io::Result<String>
     ensures text { IfOk result (λ made. IfSome (R.remaining reader.old) (λ input. string_bytes made ≡ A.text answer.now input)) }
+    ensures end { OnOk result (IsAtEnd (R.remaining reader.new)) }
     ensures written { OnOk result (IfSome (R.remaining reader.old) (λ input. Appends (W.contents writer.old) (W.contents writer.new) (A.text answer.now input))) }
 {
     let mut input = Vec::new(heap);

@@ -20,7 +20,7 @@ pub(crate) struct Place {
 }
 
 impl Place {
-    // Whether the rules give the place the same. Two numbers choose the word, so no type's `Display` has it.
+    // Whether the rules give the place the same. A function of its own, so that an edit can turn the comparison alone.
     fn word(&self) -> &'static str
         ensures { result.now ≡ word_of self.now.running self.now.left_over }
     {

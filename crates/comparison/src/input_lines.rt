@@ -11,10 +11,10 @@ pub(crate) struct InputLines<'a> {
     left: &'a [u8],
 }
 
-impl<'a> InputLines<'a> {
-    pub(crate) fn of(input: &'a [u8]) -> InputLines<'a>
-        ensures { result.left.now ≡ input.now }
-    {
+impl<'a> From<&'a [u8]> for InputLines<'a> {
+    ghost from_gives = { λ input lines. lines.left.now ≡ input.now };
+
+    fn from(input: &'a [u8]) -> InputLines<'a> {
         InputLines { left: input }
     }
 }

@@ -72,7 +72,7 @@ pub fn report_on(heap: Global, input: &[u8]) -> Result<String, AllocError>
     ensures every_line { OnOk result (CutIntoLines input.now (lines_of input.now)) }
 {
     let mut report = Report::new(heap);
-    for line in InputLines::of(input) {
+    for line in InputLines::from(input) {
         report.answer(line)?;
     }
     report.end()

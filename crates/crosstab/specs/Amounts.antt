@@ -1,6 +1,7 @@
 -- Four amounts or charges of a card, and the sum that joins two. Assumes nothing.
 use Rattle.std.specs.Prelude.{ℕ, ◌+◌, ◌-◌, ◌^◌, ◌≤◌, min, Bool, ◌||◌, nat_lt}
 use Rattle.std.proofs.Common.{arith, lit≤}
+use Rattle.crosstab.specs.declared.charges.Charges.{Charges}
 
 -- 18,446,744,073,709,551,615, the largest number of 64 bits.
 abbrev pub largest : ℕ
@@ -13,6 +14,9 @@ stopping_sum a b = min (a + b) largest
 -- Whether any of four charges is above 0.
 abbrev pub any_above_zero : ℕ → ℕ → ℕ → ℕ → Bool
 any_above_zero a b c d = nat_lt 0 a || (nat_lt 0 b || (nat_lt 0 c || nat_lt 0 d))
+
+abbrev pub any_charge : Charges → Bool
+any_charge c = any_above_zero c.transmission c.distribution c.ancillary_service c.dispatch
 
 -- That four amounts have 64 bits, which each card carries with it.
 abbrev pub AllFit : ℕ → ℕ → ℕ → ℕ → Type 0

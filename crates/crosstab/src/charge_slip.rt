@@ -1,6 +1,6 @@
 // A slip with four charges, and a mark whether any is above 0.
 ghost use Rattle.std.specs.Prelude.{◌≡◌, ◌||◌};
-ghost use Rattle.crosstab.specs.Amounts.{AllFit, any_above_zero};
+ghost use Rattle.crosstab.specs.Amounts.{AllFit, any_charge};
 
 use crate::{Card, Charges};
 
@@ -13,21 +13,19 @@ pub struct ChargeSlip {
     // Each charge has 64 bits.
     ghost fits: { AllFit charges.transmission charges.distribution charges.ancillary_service charges.dispatch },
     // The mark is set exactly where a charge is above 0.
-    ghost right_mark: { charged ≡ any_above_zero charges.transmission charges.distribution charges.ancillary_service charges.dispatch },
+    ghost right_mark: { charged ≡ any_charge charges },
 }
 
 impl ChargeSlip {
     /// The slip of these charges.
+    // Callers have it by this name; `From<Charges>` says the same.
     pub fn of(charges: Charges) -> ChargeSlip
         ensures charges { result.charges ≡ charges }
-        ensures mark { result.charged ≡ any_above_zero charges.transmission charges.distribution charges.ancillary_service charges.dispatch }
+        ensures mark { result.charged ≡ any_charge charges }
     {
         ChargeSlip {
             charges,
-            charged: charges.transmission > 0
-                || charges.distribution > 0
-                || charges.ancillary_service > 0
-                || charges.dispatch > 0,
+            charged: charges != Charges::default(),
         }
     }
 
@@ -41,14 +39,14 @@ impl ChargeSlip {
     /// Whether a charge is above 0.
     pub fn is_charged(&self) -> bool
         ensures mark { result ≡ self.now.charged }
-        ensures above_zero { result ≡ any_above_zero self.now.charges.transmission self.now.charges.distribution self.now.charges.ancillary_service self.now.charges.dispatch }
+        ensures above_zero { result ≡ any_charge self.now.charges }
     {
         self.charged
     }
 }
 
 impl From<Charges> for ChargeSlip {
-    ghost from_gives = { λ charges slip. (slip.charges ≡ charges) × (slip.charged ≡ any_above_zero charges.transmission charges.distribution charges.ancillary_service charges.dispatch) };
+    ghost from_gives = { λ charges slip. (slip.charges ≡ charges) × (slip.charged ≡ any_charge charges) };
 
     fn from(charges: Charges) -> ChargeSlip {
         ChargeSlip::of(charges)

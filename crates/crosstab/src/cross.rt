@@ -4,11 +4,12 @@ ghost use Rattle.refusals.specs.First.{first_met};
 ghost use Rattle.crosstab.specs.Cards.{joined_all};
 ghost use Rattle.crosstab.specs.Tables.{totals_by_row, totals_by_column, whole_reasons, row_reasons, column_reasons, cross_reasons, SameWhole};
 
-// The calls take cards, rows and columns apart, since it is theirs to refuse what is no table. Each names a definition of its own,
-// so rows and columns have a call each; the text behind them is one.
 use crate::Card;
 use crate::table::Table;
 use refusals::Refusal;
+
+// The calls take cards, rows and columns apart, since it is theirs to refuse what is no table. Each names a definition of its own,
+// so rows and columns have a call each; the text behind them is one.
 
 /// Writes the total of each row of a table to `totals`, which stay as they are under a refusal.
 pub fn row_totals<C: Card>(
@@ -71,7 +72,5 @@ pub fn cross_table<C: Card>(
     if row_totals.len() != rows || column_totals.len() != columns {
         return Err(Refusal::UnlikeLengths);
     }
-    table.write_row_totals(row_totals);
-    table.write_column_totals(column_totals);
-    Ok(table.whole())
+    Ok(table.write_both_totals(row_totals, column_totals))
 }

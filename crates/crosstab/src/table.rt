@@ -44,12 +44,26 @@ impl<'a, C: Card> Table<'a, C> {
         joined(self.cards.iter().copied())
     }
 
+    // Writes the totals of the rows and of the columns, and answers the whole.
+    pub(crate) fn write_both_totals(&self, row_totals: &mut [C], column_totals: &mut [C]) -> C
+        requires rows { length row_totals.old ≡ self.now.rows }
+        requires columns { length column_totals.old ≡ self.now.columns }
+        ensures whole { result ≡ joined_all C.blank C.joined self.now.cards.now }
+        ensures row_totals { row_totals.new ≡ totals_by_row C.blank C.joined self.now.cards.now self.now.rows self.now.columns }
+        ensures column_totals { column_totals.new ≡ totals_by_column C.blank C.joined self.now.cards.now self.now.rows self.now.columns }
+    {
+        self.write_row_totals(row_totals);
+        self.write_column_totals(column_totals);
+        self.whole()
+    }
+
     // The cards of row `r` joined.
     #[tactic(auto, using(crate::proofs::Lines::row_by_range))]
     fn row_total(&self, r: usize) -> C
         requires { r < self.now.rows }
         ensures { result ≡ joined_all C.blank C.joined (row C.blank self.now.cards.now self.now.columns r) }
     {
+        // A row lies from r × columns on, so it is a slice by its places.
         let start = r * self.columns;
         joined(self.cards[start..start + self.columns].iter().copied())
     }
@@ -69,6 +83,7 @@ impl<'a, C: Card> Table<'a, C> {
         requires { c < self.now.columns }
         ensures { result ≡ joined_all C.blank C.joined (column C.blank self.now.cards.now self.now.rows self.now.columns c) }
     {
+        // A column has one card of each row, at its own place there.
         joined(self.each_row().map(|row| row[c]))
     }
 

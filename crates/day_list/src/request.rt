@@ -33,11 +33,7 @@ fn line_of(input: &[u8]) -> Option<&[u8]>
     ensures { changed (λ x. x.now) result ≡ line_of input.now }
 {
     let (line, rest) = cut(input, b'\n');
-    if rest.unwrap_or(&[]).is_empty() {
-        Some(line)
-    } else {
-        None
-    }
+    rest.unwrap_or(&[]).is_empty().then_some(line)
 }
 
 // The request that six numbers make.

@@ -93,6 +93,7 @@ fn add_unit_to_largest(portions: &mut [Portion])
         ≡ slice_set (remainders_of portions.old) (foremost (remainders_of portions.old)) 0 }
 {
     if let Some(place) = place_of_largest(portions) {
+        // The place is what was found.
         portions[place].add_unit();
     }
 }

@@ -40,6 +40,7 @@ fn shares_by_running_totals(division: &Division) -> ArrayVec<u32, MOST_WEIGHTS>
     ensures by_running_totals { TheOne (ByRunningTotals division.now.amount division.now.weights.now)
         (length division.now.weights.now) result.items }
 {
+    // Pushed in a loop, since collecting into an `ArrayVec` takes an allocator and can fail.
     let mut shares = ArrayVec::new();
     let mut reached = 0;
     let mut given = 0;

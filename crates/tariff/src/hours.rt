@@ -31,13 +31,13 @@ pub enum DayKind {
     OffPeakDay,
 }
 
-/// A tariff period.
+/// A tariff period, with its number.
 #[derive(Clone, Copy, PartialEq, Eq, Debug)]
 pub enum Period {
-    Peak,
-    HalfPeak,
-    SaturdayHalfPeak,
-    OffPeak,
+    Peak = 0,
+    HalfPeak = 1,
+    SaturdayHalfPeak = 2,
+    OffPeak = 3,
 }
 
 impl Season {
@@ -68,17 +68,11 @@ impl DayKind {
 
 impl Period {
     /// The number of the period, from 0.
-    // By cases, as the definition has them: discriminants and a cast would say no more.
     pub fn number(self) -> usize
         ensures is { result ≡ number_of self }
         ensures one_of_four { result < 4 }
     {
-        match self {
-            Period::Peak => 0,
-            Period::HalfPeak => 1,
-            Period::SaturdayHalfPeak => 2,
-            Period::OffPeak => 3,
-        }
+        self as usize
     }
 }
 

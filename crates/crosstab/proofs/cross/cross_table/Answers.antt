@@ -5,4 +5,5 @@ pub returns-clause-same_whole : goal.returns-clause-same_whole
 returns-clause-same_whole g c =
     let table = c.in_ok-table.table in
     let whole = same_whole g.met.C.Card.laws table.cards.now table.rows table.columns table.filled in
-    rw (c.write_row_totals.ensures, c.write_column_totals.ensures, c.whole.ensures) whole
+    let written = c.write_both_totals.ensures in
+    rw (written.row_totals, written.column_totals, written.whole) whole
