@@ -30,6 +30,7 @@ fn main(rt: HostRuntime) -> anyhow::Result<()> {
         &mut rt.stdin(),
         &mut io::writer(&rt),
     )?;
+    // The test of the text and the line of help are this program's own.
     if report.as_str().contains(" refusal ") {
         // The report is written whether or not this can be read.
         let _ = rt.eprintln(REFUSALS);

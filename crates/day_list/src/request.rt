@@ -28,7 +28,7 @@ impl Request {
     }
 }
 
-// The one line of the input, where nothing stands after its newline.
+// The one line of the input, where nothing stands after its newline. A report's input has many, so that it has a function of its own.
 fn line_of(input: &[u8]) -> Option<&[u8]>
     ensures { changed (λ x. x.now) result ≡ line_of input.now }
 {
@@ -55,7 +55,7 @@ fn request_of(found: &[u32]) -> Option<Request>
     })
 }
 
-// The request that the input makes, where it is one line of six numbers.
+// The request that the input makes, where it is one line of six numbers. Want of memory is another thing, which `?` serves.
 pub(crate) fn request_in(heap: Global, input: &[u8]) -> Result<Option<Request>, AllocError>
     ensures { IfOk result (λ found. found ≡ request_in input.now) }
 {

@@ -77,6 +77,7 @@ fn is_blank(byte: &u8) -> bool
 
 /// The numbers of a line, one blank between two; None where a piece is no number.
 /// The answer is `ns` just where `line` is how `ns` is written. `Err` is want of memory.
+// No such line and want of memory are two things, and `?` serves the second.
 pub fn numbers(heap: Global, line: &[u8]) -> Result<Option<Vec<u32>>, AllocError>
     ensures value { IfOk result (λ found. option_map vec_items found ≡ numbers_in line.now) }
     ensures writes { IfOk result (λ found. (ns : List ℕ) → (option_map vec_items found ≡ Some ns → Writes ns line.now) × (Writes ns line.now → option_map vec_items found ≡ Some ns)) }

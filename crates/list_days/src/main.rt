@@ -26,6 +26,7 @@ impl Answer for DayList {
 
 fn main(rt: HostRuntime) -> anyhow::Result<()> {
     let list = answer_all(rt.alloc(), &DayList, &mut rt.stdin(), &mut io::writer(&rt))?;
+    // The test of the text and the line of help are this program's own.
     if list.as_str().starts_with("refusal ") {
         // The list is written whether or not this can be read.
         let _ = rt.eprintln(REFUSALS);
