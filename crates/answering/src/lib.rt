@@ -18,6 +18,19 @@ pub trait Answer {
         ensures { IfOk result (λ made. string_bytes made ≡ text self.now input.now) };
 }
 
+// How many bytes one write takes at most, as many as when a text is printed.
+const PIECE: usize = 1024;
+
+// Writes the bytes in pieces, since an output need not take them all in one write.
+fn write_in_pieces<W: Write>(writer: &mut W, bytes: &[u8]) -> io::Result<()>
+    ensures { OnOk result (Appends (W.contents writer.old) (W.contents writer.new) bytes.now) }
+{
+    for piece in bytes.chunks(PIECE) {
+        writer.write_all(piece)?;
+    }
+    Ok(())
+}
+
 /// Reads the input to its end, writes the text for it and nothing else, and answers the text.
 pub fn answer_all<A: Answer, R: Read, W: Write>(
     heap: Global,
@@ -32,7 +45,7 @@ pub fn answer_all<A: Answer, R: Read, W: Write>(
     let mut input = Vec::new(heap);
     reader.read_to_end(&mut input)?;
     let text = answer.answer(heap, input.as_slice())?;
-    writer.write_all(text.as_bytes())?;
+    write_in_pieces(writer, text.as_bytes())?;
     Ok(text)
 }
 
