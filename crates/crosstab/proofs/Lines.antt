@@ -1,5 +1,5 @@
 -- The cards of a row as a part of all cards, and those of a column as what a chain gives. Assumes nothing.
-use Rattle.std.proofs.Common.{◌≡◌, ℕ, ◌+◌, ◌-◌, ◌*◌, ◌<◌, ◌/◌, List, Option, None, Some, Bor, true, ap, length, get_or, ◌≤◌, drop, sym, arith, length-drop, length-take, get_or-drop, get_or-take, ◌∙◌}
+use Rattle.std.proofs.Common.{◌≡◌, ℕ, ◌+◌, ◌-◌, ◌*◌, ◌<◌, ◌/◌, List, Option, None, Some, Bor, true, ap, length, get_or, ◌≤◌, take, drop, sym, arith, length-drop, length-take, get_or-drop, get_or-take, ◌∙◌}
 use Rattle.std.specs.List.{slice_range, IsSubsliceAt}
 use Rattle.std.specs.Iterator.Runs.{Run, IsChunksExactRun}
 use Rattle.std.specs.Prelude.{IfSome, IsSomeAnd}
@@ -8,13 +8,19 @@ use Rattle.std.proofs.lemmas.List.FromFn.{fill_by_all}
 use Rattle.std.proofs.lemmas.Nat.{row_fits}
 use Rattle.crosstab.specs.Tables.{card_at, row, column}
 
+-- A row that lies within the cards is a part of them.
+pub row_is_part : {C : Type 0} (empty : C) (cards : List C) (w r : ℕ) → r * w + w ≤ length cards → take w (drop (r * w) cards) ≡ row empty cards w r
+row_is_part empty cards w r within =
+    fill_by_all (λ c. card_at empty cards w r c) (take w (drop (r * w) cards)) w empty
+    (simp (length-take, length-drop) (omega arith))
+    (λ c below. get_or-take w (drop (r * w) cards) c empty below ∙ get_or-drop (r * w) cards c empty)
+
 -- Row r of h rows of w cards.
 pub row_by_range : {C : Type 0} (empty : C) (cards : List C) (h w r : ℕ) → length cards ≡ h * w → r < h → row empty cards w r ≡ slice_range cards (r * w) (r * w + w)
 row_by_range empty cards h w r filled below =
     let within = row_fits r w h w below (omega arith) in
-    sym (fill_by_all (λ c. card_at empty cards w r c) (slice_range cards (r * w) (r * w + w)) w empty
-    (simp (length-take, length-drop) (omega (arith, filled, within)))
-    (λ c inside. get_or-take (r * w + w - r * w) (drop (r * w) cards) c empty (omega arith) ∙ get_or-drop (r * w) cards c empty))
+    let size : w ≡ r * w + w - r * w = omega arith in
+    sym (row_is_part empty cards w r (omega (arith, filled, within))) ∙ ap (λ n. take n (drop (r * w) cards)) size
 
 -- A run that gives the cards of column c, told place by place.
 pub column_by_place : {S C : Type 0} {steps : S → Option C → S → Type 0} (empty : C) (cards : List C) (rows w c : ℕ) (p : Run steps)

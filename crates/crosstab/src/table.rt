@@ -1,5 +1,5 @@
 // A table of cards that lie by rows, and the totals of its rows and columns.
-ghost use Rattle.std.specs.Prelude.{◌≡◌, ◌*◌, ◌<◌, length, ◌==◌, is_ok, IfOk, IfErr};
+ghost use Rattle.std.specs.Prelude.{◌≡◌, ◌*◌, ◌<◌, length, ◌==◌, is_ok, IfOk, IfErr, slice_index_or};
 ghost use Rattle.refusals.specs.declared.Refusal.TheVariants.{UnlikeLengths};
 ghost use Rattle.std.specs.Iterator.Runs.{EveryRun, IsChunksExactRun};
 ghost use Rattle.std.specs.Slice.Iter.{chunks_exact_rest, chunks_exact_size, chunks_exact_steps};
@@ -84,7 +84,7 @@ impl<'a, C: Card> Table<'a, C> {
         ensures { result ≡ joined_all C.blank C.joined (column C.blank self.now.cards.now self.now.rows self.now.columns c) }
     {
         // A column has one card of each row, at its own place there.
-        joined(self.each_row().map(|row| row[c]))
+        joined(self.each_row().map(|row| card_in(row, c)))
     }
 
     // Writes the total of each row.
@@ -102,4 +102,12 @@ impl<'a, C: Card> Table<'a, C> {
     {
         write_each(totals, |c| self.column_total(c));
     }
+}
+
+// The card of column `c` in a row. A function of its own, so that an edit can turn the place alone.
+fn card_in<C: Card>(row: &[C], c: usize) -> C
+    requires { c < length row.now }
+    ensures { result ≡ slice_index_or row.now c C.blank }
+{
+    row[c]
 }

@@ -1,6 +1,5 @@
 use Rattle.std.proofs.Common.{◌<◌, ◌∙◌, ap, subst, sym, rules, arith}
 use Rattle.std.specs.Iterator.Runs.{IsChunksExactRun}
-use Rattle.std.proofs.lemmas.List.{get_or_read}
 use Rattle.std.specs.Slice.Iter.{chunks_exact_rest, chunks_exact_size}
 use Rattle.crosstab.specs.Cards.{joined_all}
 use Rattle.crosstab.proofs.Lines.{column_by_chunks}
@@ -18,4 +17,4 @@ returns g c =
     let parts = subst (λ n. 0 < n → IsChunksExactRun rows n (chunks_exact_rest c.each_row.result)) chunked.size sized in
     let whole = subst (λ xs. IsChunksExactRun rows table.columns xs) chunked.cards (parts (omega (arith, c.requires))) in
     let related = mapped.2.2 (λ a r f' call. search rules) in
-    run.3 ∙ sym (ap (joined_all kind.blank kind.joined) (column_by_chunks kind.blank table.cards.now table.rows table.columns c.args.c table.filled c.requires run.0 rows _ (λ x y below call. get_or_read x.now c.args.c y below (search rules) kind.blank) run.2 mapped.2.0 mapped.2.1 related.1 whole))
+    run.3 ∙ sym (ap (joined_all kind.blank kind.joined) (column_by_chunks kind.blank table.cards.now table.rows table.columns c.args.c table.filled c.requires run.0 rows _ (λ x y below call. search rules) run.2 mapped.2.0 mapped.2.1 related.1 whole))
