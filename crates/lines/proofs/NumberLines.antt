@@ -1,17 +1,20 @@
 -- A line is read as numbers just where it is how those numbers are written. Assumes nothing.
-use Rattle.std.proofs.Common.{◌≡◌, ℕ, ◌+◌, ◌^◌, ◌<◌, false, eqb, List, [], ◌∷◌, ◌++◌, map, length, get_or, drop, Some, None, decimal, Option, sym, refl, ap, ◌∙◌, arith}
-use Rattle.lines.specs.Cuts.{pieces}
+use Rattle.std.proofs.Common.{◌≡◌, ℕ, ◌+◌, ◌^◌, ◌<◌, true, false, eqb, List, [], ◌∷◌, ◌++◌, map, length, get_or, drop, Some, None, decimal, Option, sym, refl, ap, ◌∙◌, arith}
+use Rattle.lines.specs.Cuts.{before, after, pieces}
 use Rattle.lines.specs.Decimals.{and_then, number_in}
 use Rattle.lines.specs.Numbers.{each_number, numbers_in, written, Writes}
 use Rattle.lines.proofs.Decimals.{own, number_written, number_back}
 use Rattle.std.proofs.lemmas.Fmt.{digits_decimal}
 use Rattle.std.proofs.lemmas.Str.Parse.{not_in_digits}
+use Rattle.std.proofs.lemmas.Bool.{and_parts, ne_eqb}
 use Rattle.std.proofs.lemmas.Bool.Decides.{nat_tests}
 use Rattle.std.proofs.lemmas.List.{get_or_default, length-map}
 use Rattle.std.proofs.lemmas.List.Splits.{slice_split_none, slice_split_at, length-slice_split, join_with_byte-slice_split}
 use Rattle.std.proofs.lemmas.Grind.{common_steps}
 use Rattle.std.specs.Option.{option_map}
+use Rattle.std.specs.Char.{is_ascii_digit}
 use Rattle.std.specs.List.{All, AllByRecursion, join_with_byte}
+use Rattle.std.specs.Str.{all_ascii_digits}
 
 -- the numbers that have been read, with those of the pieces that are left
 abbrev pub numbers_on : List ℕ → List (List ℕ) → Option (List ℕ)
@@ -37,6 +40,15 @@ no_blank : (n : ℕ) → n < 2 ^ 32 → All (λ b. eqb b 32 ≡ false) (decimal 
 no_blank n h k d l =
     let e = not_in_digits own (decimal n) 32 (digits_decimal own n (omega arith)) (λ r. omega (arith, r)) k l in
     let z = get_or_default (decimal n) k d 0 l in grind (arith, nat_tests)
+
+-- a cut at a blank passes over digits
+digits_pass : (ds text : List ℕ) → all_ascii_digits ds ≡ true → (before 32 (ds ++ text) ≡ ds ++ before 32 text) × (after 32 (ds ++ text) ≡ after 32 text)
+digits_pass [] text d = (refl, refl)
+digits_pass (b ∷ ds) text d =
+    let p = and_parts (is_ascii_digit b) (all_ascii_digits ds) d in
+    let t = ne_eqb b 32 (λ e. grind (arith, nat_tests)) in
+    let r = digits_pass ds text p.1 in
+    (rw t (ap (λ l. b ∷ l) r.0), rw t r.1)
 
 -- the pieces of numbers that are written are each number, written
 pieces_written : (n : ℕ) (ns : List ℕ) → AllByRecursion (λ n. n < 2 ^ 32) (n ∷ ns) → pieces 32 (written (n ∷ ns)) ≡ map decimal (n ∷ ns)
