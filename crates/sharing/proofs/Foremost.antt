@@ -1,6 +1,7 @@
 -- The largest number of a list and its earliest place, as code finds them. Assumes nothing.
-use Rattle.std.proofs.Common.{◌≡◌, ℕ, zero, suc, ◌<◌, ◌≤◌, ◌==◌, max, unwrap_or, MatchOption, List, [], ◌∷◌, length, get_or, position, sym, refl, inl, inr, arith}
+use Rattle.std.proofs.Common.{◌≡◌, ℕ, zero, suc, ◌+◌, ◌<◌, ◌≤◌, ◌==◌, max, unwrap_or, MatchOption, List, [], ◌∷◌, ◌++◌, length, get_or, position, take, sym, refl, ap, inl, inr, arith, take_all}
 use Rattle.std.specs.List.{fold, reduce}
+use Rattle.std.proofs.lemmas.List.{take_more, length-take-le}
 use Rattle.std.proofs.lemmas.List.Sums.{position_or_len_is}
 use Rattle.std.proofs.lemmas.Bool.{cases_lt, lt-ltb}
 use Rattle.std.proofs.lemmas.Bool.Decides.{nat_tests}
@@ -42,12 +43,55 @@ foremost_first (x ∷ xs) (suc k) h =
       | inr down ↦ omega (arith, here x xs down)
     ]
 
+pub foremost_within : (xs : List ℕ) → 0 < length xs → foremost xs < length xs
+foremost_within [] some = omega arith
+foremost_within (x ∷ xs) some = omega (arith, foremost_inside x xs)
+
 -- The first place of the largest number, in a list of n.
 pub place_of_peak : (xs : List ℕ) (n : ℕ) → length xs ≡ n → MatchOption (position (λ x. x == peak xs) xs) (n ≡ 0) (λ k. (k ≡ foremost xs) × (k < n))
 place_of_peak [] n long = sym long
 place_of_peak (x ∷ xs) n long =
-    let inside : foremost (x ∷ xs) < length (x ∷ xs) = omega (arith, foremost_inside x xs) in
+    let inside = foremost_within (x ∷ xs) (omega arith) in
     let first = position_or_len_is (λ y. y == peak (x ∷ xs)) (x ∷ xs) (foremost (x ∷ xs)) 0 (omega arith)
     (λ k h. grind (arith, nat_tests, foremost_first (x ∷ xs) k h, get_or-foremost (x ∷ xs)))
     (λ h. grind (arith, nat_tests, get_or-foremost (x ∷ xs))) in
     rw (first, lt-ltb (foremost (x ∷ xs)) (length (x ∷ xs)) inside) (refl, omega arith)
+
+-- one number more at the end
+peak-push : (xs : List ℕ) (y : ℕ) → peak (xs ++ y ∷ []) ≡ max (peak xs) y
+peak-push [] y = omega arith
+peak-push (x ∷ xs) y = omega (arith, peak-push xs y)
+
+foremost-push_larger : (xs : List ℕ) (y : ℕ) → peak xs < y → foremost (xs ++ y ∷ []) ≡ length xs
+foremost-push_larger [] y more = here y [] (omega arith)
+foremost-push_larger (x ∷ xs) y more =
+    omega (arith, later x (xs ++ y ∷ []) (omega (arith, peak-push xs y)), foremost-push_larger xs y (omega arith))
+
+foremost-push_other : (xs : List ℕ) (y : ℕ) → y ≤ peak xs → foremost (xs ++ y ∷ []) ≡ foremost xs
+foremost-push_other [] y less = here y [] (omega arith)
+foremost-push_other (x ∷ xs) y less =
+    elim (cases_lt x (peak xs)) [
+      | inl up ↦ omega (arith, later x xs up, later x (xs ++ y ∷ []) (omega (arith, peak-push xs y)), foremost-push_other xs y (omega arith))
+      | inr down ↦ omega (arith, here x xs down, here x (xs ++ y ∷ []) (omega (arith, peak-push xs y)))
+    ]
+
+-- The largest number and its place in the first i + 1 of a list, from those in the first i.
+pub peak_larger : (xs : List ℕ) (i : ℕ) → i < length xs → peak (take i xs) < get_or xs i 0 → peak (take (i + 1) xs) ≡ get_or xs i 0
+peak_larger xs i inside more = omega (arith, ap peak (take_more xs i 0 inside), peak-push (take i xs) (get_or xs i 0))
+
+pub peak_other : (xs : List ℕ) (i : ℕ) → i < length xs → get_or xs i 0 ≤ peak (take i xs) → peak (take (i + 1) xs) ≡ peak (take i xs)
+peak_other xs i inside less = omega (arith, ap peak (take_more xs i 0 inside), peak-push (take i xs) (get_or xs i 0))
+
+pub foremost_larger : (xs : List ℕ) (i : ℕ) → i < length xs → peak (take i xs) < get_or xs i 0 → foremost (take (i + 1) xs) ≡ i
+foremost_larger xs i inside more =
+    omega (arith, ap foremost (take_more xs i 0 inside), foremost-push_larger (take i xs) (get_or xs i 0) more, length-take-le i xs (omega arith))
+
+pub foremost_other : (xs : List ℕ) (i : ℕ) → i < length xs → get_or xs i 0 ≤ peak (take i xs) → foremost (take (i + 1) xs) ≡ foremost (take i xs)
+foremost_other xs i inside less =
+    omega (arith, ap foremost (take_more xs i 0 inside), foremost-push_other (take i xs) (get_or xs i 0) less)
+
+pub foremost_all : (xs : List ℕ) (i : ℕ) → length xs ≤ i → foremost (take i xs) ≡ foremost xs
+foremost_all xs i all = ap foremost (take_all i xs all)
+
+-- what a loop over a list needs that looks for the place
+pub ruleset scan = (peak_larger, peak_other, foremost_larger, foremost_other, foremost_all, foremost_within)

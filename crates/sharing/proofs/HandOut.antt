@@ -1,11 +1,9 @@
 -- What one unit more changes, and what handing out the units that are left comes to. Assumes nothing.
 use Rattle.std.proofs.Common.{◌≡◌, ◌==◌, ℕ, suc, ◌+◌, ◌-◌, ◌<◌, ◌≤◌, List, length, get_or, set, sum, sym, ap, ◌∙◌, inl, inr, arith}
 use Rattle.std.proofs.Math.Nat.{eq-zero-or-pos}
-use Rattle.std.proofs.lemmas.List.{set_past, map-set, get_or-map, length-map}
+use Rattle.std.proofs.lemmas.List.{set_past, length-set}
 use Rattle.std.proofs.lemmas.List.Sums.{sum_by-set, get_or-le-sum_by}
 use Rattle.std.proofs.lemmas.Bool.{cases_lt, cond-true, eq-eqb}
-use Rattle.sharing.specs.declared.division.Portion.{Portion}
-use Rattle.sharing.specs.Portion.{units_of}
 use Rattle.sharing.specs.LeftOver.{whole_parts, remainders, units_left, foremost, hand_out, left_over}
 use Rattle.sharing.specs.LeftOverLaws.{units_are}
 
@@ -33,8 +31,5 @@ left_over_is a ws given rests shares nothing e f g =
       | inr h ↦ sym (units_are a ws h)
     ] in cc
 
-pub units_at : (portions : List Portion) (k : ℕ) (other : Portion) → k < length portions → get_or (units_of portions) k 0 ≡ (get_or portions k other).units
-units_at portions k other inside = get_or-map (λ (portion : Portion). portion.units) portions k other 0 inside
-
--- a read of one portion, and a write to one
-pub ruleset portion_steps = (units_at, map-set, length-map, get_or-le-sum_by)
+-- a read of one number, and a write to one
+pub ruleset unit_steps = (length-set, get_or-le-sum_by)

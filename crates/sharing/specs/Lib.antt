@@ -1,7 +1,6 @@
 pub mod Rule
 pub mod RunningTotal
 pub mod LeftOver
-pub mod Portion
 pub mod LeftOverLaws
 pub mod Nearest
 pub mod RunningLaws

@@ -1,12 +1,9 @@
 // An amount to divide over weights, and the exact part of a weight.
-ghost use Rattle.std.specs.Prelude.{◌≡◌, ◌+◌, ◌*◌, ◌/◌, ◌%◌, ◌^◌, ◌<◌, ◌≤◌, length, sum, IfOk, OnOk};
+ghost use Rattle.std.specs.Prelude.{◌≡◌, ◌*◌, ◌/◌, ◌%◌, ◌≤◌, length, sum, IfOk, OnOk};
 ghost use Rattle.std.specs.Result.{result_map_both};
 ghost use Rattle.refusals.specs.First.{first_met};
 ghost use Rattle.sharing.specs.Rule.{Admitted, reasons};
-ghost use Rattle.sharing.specs.LeftOver.{whole_parts, remainders};
-ghost use Rattle.sharing.specs.Portion.{units_of, remainders_of};
 
-use arrayvec::ArrayVec;
 use refusals::Refusal;
 
 /// The most weights over which one call divides.
@@ -30,18 +27,6 @@ pub(crate) struct Division<'a> {
 pub(crate) struct Portion {
     pub(crate) units: u32,
     pub(crate) remainder: u32,
-}
-
-impl Portion {
-    /// Adds a unit, after which nothing remains.
-    pub(crate) fn add_unit(&mut self)
-        requires { self.old.units + 1 < 2 ^ 32 }
-        ensures units { self.new.units ≡ self.old.units + 1 }
-        ensures remainder { self.new.remainder ≡ 0 }
-    {
-        self.units += 1;
-        self.remainder = 0;
-    }
 }
 
 // The sum of the weights, which are few enough that it fits.
@@ -100,18 +85,5 @@ impl<'a> Division<'a> {
             units: (product / total) as u32,
             remainder: (product % total) as u32,
         }
-    }
-
-    /// The exact part of each weight.
-    pub(crate) fn portions(&self) -> ArrayVec<Portion, MOST_WEIGHTS>
-        ensures units { units_of result.items ≡ whole_parts self.now.amount self.now.weights.now }
-        ensures remainders { remainders_of result.items ≡ remainders self.now.amount self.now.weights.now }
-    {
-        // Pushed in a loop, since collecting into an `ArrayVec` takes an allocator and can fail.
-        let mut portions = ArrayVec::new();
-        for weight in self.weights {
-            portions.push(self.portion_of(*weight));
-        }
-        portions
     }
 }

@@ -1,14 +1,12 @@
 // The left-over rule.
-ghost use Rattle.std.specs.Prelude.{◌≡◌, ◌+◌, ◌==◌, ◌^◌, ◌<◌, ◌≤◌, length, is_ok, if◌then◌else◌, sum, OnOk, MatchOption, position, slice_index, slice_set};
+ghost use Rattle.std.specs.Prelude.{◌≡◌, ◌+◌, ◌-◌, ◌^◌, ◌<◌, length, is_ok, if◌then◌else◌, sum, OnOk, MatchOption, slice_index, slice_set};
 ghost use Rattle.refusals.specs.First.{first_met, Decides};
 ghost use Rattle.sharing.specs.Rule.{TheOne, reasons};
-ghost use Rattle.sharing.specs.LeftOver.{peak, foremost, hand_out, left_over, ByRemainders};
+ghost use Rattle.sharing.specs.LeftOver.{whole_parts, remainders, foremost, hand_out, left_over, ByRemainders};
 ghost use Rattle.sharing.specs.LeftOverLaws.{left_over_laws};
-ghost use Rattle.sharing.specs.Portion.{units_of, remainders_of};
 
 use crate::SharingRule;
-use crate::division::{Division, MOST_WEIGHTS, Portion};
-use arrayvec::ArrayVec;
+use crate::division::{Division, MOST_WEIGHTS};
 use refusals::Refusal;
 
 /// Each share is the whole part of amount × weight / (all weights). The units left go one each to the largest
@@ -31,98 +29,92 @@ impl SharingRule for LeftOver {
         ensures by_remainders { OnOk result (TheOne (ByRemainders amount weights.now) (length weights.now) shares.new) }
     {
         let division = Division::new(amount, weights, shares.len())?;
-        shares.copy_from_slice(&shares_by_remainders(&division));
+        write_by_remainders(&division, shares);
         Ok(())
     }
 }
 
-// The whole parts, with the units that they leave handed out.
-#[tactic(auto, using(crate::specs::LeftOverLaws::parts_le))]
-fn shares_by_remainders(division: &Division) -> ArrayVec<u32, MOST_WEIGHTS>
-    ensures shares { result.items ≡ left_over division.now.amount division.now.weights.now }
+// Writes the whole parts, with the units that they leave handed out.
+fn write_by_remainders(division: &Division, shares: &mut [u32])
+    requires { length shares.old ≡ length division.now.weights.now }
+    ensures shares { shares.new ≡ left_over division.now.amount division.now.weights.now }
     ensures by_remainders { TheOne (ByRemainders division.now.amount division.now.weights.now)
-        (length division.now.weights.now) result.items }
+        (length division.now.weights.now) shares.new }
 {
-    let mut portions = division.portions();
-    let left = division.amount - sum_of_units(&portions);
-    hand_out(left, &mut portions);
-    units_of(&portions)
+    // Room for the most weights, since nothing here allocates.
+    let mut room = [0; MOST_WEIGHTS];
+    let rests = &mut room[..division.weights.len()];
+    let left = write_whole_parts(division, shares, rests);
+    hand_out(left, rests, shares);
 }
 
-// How many units the portions have together.
-fn sum_of_units(portions: &[Portion]) -> u32
-    requires { sum (units_of portions.now) < 2 ^ 32 }
-    ensures { result ≡ sum (units_of portions.now) }
+// Writes the whole parts, keeps what remains of each product, and says how many units are left.
+fn write_whole_parts(division: &Division, shares: &mut [u32], rests: &mut [u32]) -> u32
+    requires shares { length shares.old ≡ length division.now.weights.now }
+    requires rests { length rests.old ≡ length division.now.weights.now }
+    ensures parts { shares.new ≡ whole_parts division.now.amount division.now.weights.now }
+    ensures rests { rests.new ≡ remainders division.now.amount division.now.weights.now }
+    ensures left { result + sum (whole_parts division.now.amount division.now.weights.now)
+        ≡ division.now.amount }
 {
-    portions.iter().map(|portion| portion.units).sum()
-}
-
-// The units of each portion.
-fn units_of(portions: &[Portion]) -> ArrayVec<u32, MOST_WEIGHTS>
-    requires { length portions.now ≤ MOST_WEIGHTS }
-    ensures { result.items ≡ units_of portions.now }
-{
-    // Pushed in a loop, since collecting into an `ArrayVec` takes an allocator and can fail.
-    let mut units = ArrayVec::new();
-    for portion in portions {
-        units.push(portion.units);
+    let mut left = division.amount;
+    // By place, since nothing would be known of what a loop over a `zip` with `iter_mut` wrote.
+    for (i, weight) in division.weights.iter().enumerate() {
+        let portion = division.portion_of(*weight);
+        shares[i] = portion.units;
+        rests[i] = portion.remainder;
+        left -= portion.units;
     }
-    units
+    left
 }
 
-// Adds one unit each to the portions with the largest remainders, the earlier place first among equals.
+// Adds one unit each to the shares with the largest remainders, the earlier place first among equals.
 #[tactic(auto, using(crate::proofs::HandOut::sum_of_one_more, crate::proofs::HandOut::hand_out_next))]
-fn hand_out(left: u32, portions: &mut [Portion])
-    requires { sum (units_of portions.old) + left < 2 ^ 32 }
-    ensures { units_of portions.new ≡ hand_out left (remainders_of portions.old) (units_of portions.old) }
+fn hand_out(left: u32, rests: &mut [u32], shares: &mut [u32])
+    requires alike { length rests.old ≡ length shares.old }
+    requires fits { sum shares.old + left < 2 ^ 32 }
+    ensures { shares.new ≡ hand_out left rests.old shares.old }
 {
     // The units are alike, so nothing is counted but how often.
     for _ in 0..left {
-        add_unit_to_largest(portions);
+        add_unit_to_largest(rests, shares);
     }
 }
 
-// Adds a unit to the earliest of the portions with the largest remainder. Nothing then remains there.
-#[tactic(auto, using(crate::proofs::HandOut::portion_steps))]
-fn add_unit_to_largest(portions: &mut [Portion])
-    requires { sum (units_of portions.old) + 1 < 2 ^ 32 }
-    ensures units { units_of portions.new
-        ≡ slice_set (units_of portions.old) (foremost (remainders_of portions.old))
-        (slice_index (units_of portions.old) (foremost (remainders_of portions.old)) + 1) }
-    ensures remainders { remainders_of portions.new
-        ≡ slice_set (remainders_of portions.old) (foremost (remainders_of portions.old)) 0 }
+// Adds a unit to the earliest of the shares with the largest remainder. Nothing then remains there.
+#[tactic(auto, using(crate::proofs::HandOut::unit_steps))]
+fn add_unit_to_largest(rests: &mut [u32], shares: &mut [u32])
+    requires alike { length rests.old ≡ length shares.old }
+    requires fits { sum shares.old + 1 < 2 ^ 32 }
+    ensures shares { shares.new
+        ≡ slice_set shares.old (foremost rests.old) (slice_index shares.old (foremost rests.old) + 1) }
+    ensures rests { rests.new ≡ slice_set rests.old (foremost rests.old) 0 }
 {
-    if let Some(place) = place_of_largest(portions) {
+    if let Some(place) = place_of_largest(rests) {
         // The place is what was found.
-        portions[place].add_unit();
+        shares[place] += 1;
+        rests[place] = 0;
     }
 }
 
 // The earliest place of the largest remainder.
-fn place_of_largest(portions: &[Portion]) -> Option<usize>
-    ensures { MatchOption result (length portions.now ≡ 0)
-        (λ place. (place ≡ foremost (remainders_of portions.now)) × (place < length portions.now)) }
+#[tactic(auto, using(crate::proofs::Foremost::scan))]
+fn place_of_largest(rests: &[u32]) -> Option<usize>
+    ensures { MatchOption result (length rests.now ≡ 0)
+        (λ place. (place ≡ foremost rests.now) × (place < length rests.now)) }
 {
-    place_of(portions, largest_remainder(portions))
-}
-
-// The earliest place with this remainder.
-fn place_of(portions: &[Portion], remainder: u32) -> Option<usize>
-    ensures { result ≡ position (λ other. other == remainder) (remainders_of portions.now) }
-{
-    portions
-        .iter()
-        .map(|portion| portion.remainder)
-        .position(|other| other == remainder)
-}
-
-// The largest remainder, and 0 where there is no portion.
-fn largest_remainder(portions: &[Portion]) -> u32
-    ensures { result ≡ peak (remainders_of portions.now) }
-{
-    portions
-        .iter()
-        .map(|portion| portion.remainder)
-        .max()
-        .unwrap_or(0)
+    if rests.is_empty() {
+        return None;
+    }
+    // One pass, where `max` and then `position` would take two.
+    let mut first = 0;
+    let mut largest = 0;
+    for (place, rest) in rests.iter().enumerate() {
+        // Among equals the earlier place stays.
+        if *rest > largest {
+            first = place;
+            largest = *rest;
+        }
+    }
+    Some(first)
 }

@@ -6,8 +6,7 @@ ghost use Rattle.sharing.specs.RunningTotal.{running, ByRunningTotals};
 ghost use Rattle.sharing.specs.RunningLaws.{running_laws};
 
 use crate::SharingRule;
-use crate::division::{Division, MOST_WEIGHTS};
-use arrayvec::ArrayVec;
+use crate::division::Division;
 use refusals::Refusal;
 
 /// Share `j` is the whole part of amount × (weights up to `j`) / (all weights), less the same for the places before `j`.
@@ -29,28 +28,27 @@ impl SharingRule for RunningTotal {
         ensures by_running_totals { OnOk result (TheOne (ByRunningTotals amount weights.now) (length weights.now) shares.new) }
     {
         let division = Division::new(amount, weights, shares.len())?;
-        shares.copy_from_slice(&shares_by_running_totals(&division));
+        write_running_totals(&division, shares);
         Ok(())
     }
 }
 
-// By how much each place raises what the places up to it have together.
-fn shares_by_running_totals(division: &Division) -> ArrayVec<u32, MOST_WEIGHTS>
-    ensures shares { result.items ≡ running division.now.amount division.now.weights.now }
+// Writes by how much each place raises what the places up to it have together.
+fn write_running_totals(division: &Division, shares: &mut [u32])
+    requires { length shares.old ≡ length division.now.weights.now }
+    ensures shares { shares.new ≡ running division.now.amount division.now.weights.now }
     ensures by_running_totals { TheOne (ByRunningTotals division.now.amount division.now.weights.now)
-        (length division.now.weights.now) result.items }
+        (length division.now.weights.now) shares.new }
 {
-    // Pushed in a loop, since collecting into an `ArrayVec` takes an allocator and can fail.
-    let mut shares = ArrayVec::new();
     let mut reached = 0;
     let mut given = 0;
-    for weight in division.weights {
+    // By place, since nothing would be known of what a loop over a `zip` with `iter_mut` wrote.
+    for (i, weight) in division.weights.iter().enumerate() {
         reached += *weight;
         let together = units_together(division, reached);
-        shares.push(together - given);
+        shares[i] = together - given;
         given = together;
     }
-    shares
 }
 
 // What places have together whose weights come to `reached`.
