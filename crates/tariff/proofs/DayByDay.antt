@@ -10,6 +10,10 @@ use Rattle.tariff.proofs.Sums.{sum_more, sum_few}
 pub parts_of : (date : Date) → exists date ≡ true → (1 ≤ date.month) × (date.month ≤ 12) × (1 ≤ date.day) × (date.day ≤ days_in_month date.year date.month)
 parts_of date e = grind (arith, nat_tests)
 
+-- A date that has the four exists.
+pub from_parts : (date : Date) → (1 ≤ date.month) × (date.month ≤ 12) × (1 ≤ date.day) × (date.day ≤ days_in_month date.year date.month) → exists date ≡ true
+from_parts date p = grind (arith, nat_tests)
+
 pub next_exists : (date : Date) → exists date ≡ true → exists (day_after date) ≡ true
 next_exists date e = grind (arith, nat_tests)
 
@@ -19,6 +23,10 @@ day_after_year date = grind (arith, nat_tests)
 
 pub days_of_years_few : (n : ℕ) → days_of_years n ≤ n * 366
 days_of_years_few n = sum_few days_in_year 366 (λ year. grind (arith, nat_tests)) 2020 n
+
+-- Each month has a day.
+pub a_day_or_more : (year month : ℕ) → 1 ≤ days_in_month year month
+a_day_or_more year month = grind (arith, nat_tests)
 
 pub days_in_month_few : (year month : ℕ) → days_in_month year month ≤ 31
 days_in_month_few year month = grind (arith, nat_tests)

@@ -13,6 +13,11 @@ all_exist : (n : ℕ) (first : Date) → exists first ≡ true → exists (days_
 all_exist zero first e = e
 all_exist (suc n) first e = all_exist n (day_after first) (next_exists first e)
 
+-- A later day is of no earlier year.
+pub later_year : (n : ℕ) (first : Date) → first.year ≤ (days_after n first).year
+later_year zero first = omega arith
+later_year (suc n) first = omega (arith, later_year n (day_after first), (day_after_year first).0)
+
 none_left_out : (n : ℕ) (first : Date) → 2020 ≤ first.year → exists first ≡ true → days_since_2020 (days_after n first) ≡ days_since_2020 first + n
 none_left_out zero first late e = omega arith
 none_left_out (suc n) first late e =

@@ -111,12 +111,13 @@ impl Calendar {
 }
 
 // `high` in the hours that are peak on a working day of the two-stage calendar, and off-peak in the others.
+// The hours are tested by `contains`: as patterns of ranges they took three times the instructions.
 fn in_two_stages(season: Season, hour: u32, high: Period) -> Period
     ensures { result ≡ in_two_stages season hour high }
 {
-    match (season, hour) {
-        (Season::Summer, 9..24) => high,
-        (Season::NonSummer, 6..11 | 14..24) => high,
+    match season {
+        Season::Summer if (9..24).contains(&hour) => high,
+        Season::NonSummer if (6..11).contains(&hour) || (14..24).contains(&hour) => high,
         _ => Period::OffPeak,
     }
 }
@@ -124,10 +125,12 @@ fn in_two_stages(season: Season, hour: u32, high: Period) -> Period
 fn in_three_stages(season: Season, hour: u32) -> Period
     ensures { result ≡ in_three_stages season hour }
 {
-    match (season, hour) {
-        (Season::Summer, 16..22) => Period::Peak,
-        (Season::Summer, 9..16 | 22..24) => Period::HalfPeak,
-        (Season::NonSummer, 6..11 | 14..24) => Period::HalfPeak,
+    match season {
+        Season::Summer if (16..22).contains(&hour) => Period::Peak,
+        Season::Summer if (9..16).contains(&hour) || (22..24).contains(&hour) => Period::HalfPeak,
+        Season::NonSummer if (6..11).contains(&hour) || (14..24).contains(&hour) => {
+            Period::HalfPeak
+        }
         _ => Period::OffPeak,
     }
 }
